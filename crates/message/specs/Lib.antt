@@ -1,0 +1,4 @@
+pub mod Refusal
+pub mod Bits
+pub mod Operation
+pub mod Request

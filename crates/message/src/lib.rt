@@ -1,0 +1,4 @@
+// Messages of TileLink's channels A and D (TL-UL and TL-UH), and the address sets that they lie in.
+pub mod operation;
+pub mod refusal;
+pub mod request;

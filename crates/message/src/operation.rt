@@ -1,0 +1,98 @@
+ghost use mathlib.Core.Path.{_≡_};
+ghost use Rattle.message.specs.Operation.{operation-of, has-data, answer-to, answer-number};
+use crate::refusal::Refusal;
+
+#[derive(Clone, Copy, PartialEq, Eq, Debug)]
+pub enum Arithmetic {
+    Min,
+    Max,
+    MinU,
+    MaxU,
+    Add,
+}
+
+#[derive(Clone, Copy, PartialEq, Eq, Debug)]
+pub enum Logical {
+    Xor,
+    Or,
+    And,
+    Swap,
+}
+
+#[derive(Clone, Copy, PartialEq, Eq, Debug)]
+pub enum Prefetch {
+    Read,
+    Write,
+}
+
+// What a request asks for: its opcode and param, read.
+#[derive(Clone, Copy, PartialEq, Eq, Debug)]
+pub enum Operation {
+    PutFullData,
+    PutPartialData,
+    ArithmeticData(Arithmetic),
+    LogicalData(Logical),
+    Get,
+    Intent(Prefetch),
+}
+
+// The message that answers a request, by the opcode that it carries.
+#[derive(Clone, Copy, PartialEq, Eq, Debug)]
+pub enum Answer {
+    AccessAck = 0,
+    AccessAckData = 1,
+    HintAck = 2,
+}
+
+impl Answer {
+    pub fn opcode(self) -> u8
+        ensures { λ r. ⌜ r ≡ answer-number self ⌝ }
+    {
+        self as u8
+    }
+}
+
+impl Operation {
+    // The one place that knows the codes of requests.
+    pub fn read(opcode: u8, param: u8) -> Result<Operation, Refusal>
+        ensures { λ r. ⌜ r ≡ operation-of opcode param ⌝ }
+    {
+        match (opcode, param) {
+            (0, 0) => Ok(Operation::PutFullData),
+            (1, 0) => Ok(Operation::PutPartialData),
+            (2, 0) => Ok(Operation::ArithmeticData(Arithmetic::Min)),
+            (2, 1) => Ok(Operation::ArithmeticData(Arithmetic::Max)),
+            (2, 2) => Ok(Operation::ArithmeticData(Arithmetic::MinU)),
+            (2, 3) => Ok(Operation::ArithmeticData(Arithmetic::MaxU)),
+            (2, 4) => Ok(Operation::ArithmeticData(Arithmetic::Add)),
+            (3, 0) => Ok(Operation::LogicalData(Logical::Xor)),
+            (3, 1) => Ok(Operation::LogicalData(Logical::Or)),
+            (3, 2) => Ok(Operation::LogicalData(Logical::And)),
+            (3, 3) => Ok(Operation::LogicalData(Logical::Swap)),
+            (4, 0) => Ok(Operation::Get),
+            (5, 0) => Ok(Operation::Intent(Prefetch::Read)),
+            (5, 1) => Ok(Operation::Intent(Prefetch::Write)),
+            (0..=5, _) => Err(Refusal::Param),
+            _ => Err(Refusal::Opcode),
+        }
+    }
+
+    // Whether its requests carry data.
+    pub fn has_data(self) -> bool
+        ensures { λ r. ⌜ r ≡ has-data self ⌝ }
+    {
+        !matches!(self, Operation::Get | Operation::Intent(_))
+    }
+
+    // The message that answers it.
+    pub fn answer(self) -> Answer
+        ensures { λ r. ⌜ r ≡ answer-to self ⌝ }
+    {
+        match self {
+            Operation::PutFullData | Operation::PutPartialData => Answer::AccessAck,
+            Operation::ArithmeticData(_) | Operation::LogicalData(_) | Operation::Get =>
+                Answer::AccessAckData,
+            Operation::Intent(_) => Answer::HintAck,
+        }
+    }
+}
