@@ -1,5 +1,8 @@
 ghost use mathlib.Core.Path.{_≡_};
-ghost use Rattle.message.specs.Request.{Request, fitted, size-fits};
+ghost use Prim.Native.Nat.{_-_, _^_, _≤_};
+ghost use Rattle.std.specs.declared.result.Result.the-variants.{Ok, Err};
+ghost use Rattle.message.specs.declared.operation.Operation.{Operation};
+ghost use Rattle.message.specs.Request.{Request, Legal, atomic, partial, size-fits, aligned, mask-fits, data-length, fitted, filled, placed, checked};
 use crate::operation::Operation;
 use crate::refusal::Refusal;
 
@@ -14,7 +17,15 @@ pub struct RequestHead {
     pub mask: u64,
 }
 
-pub fn fit(operation: Operation, size: u8, address: u32) -> Result<Operation, Refusal>
+// The operation of a request at an address, or the first of the refusals that need no mask and no data.
+pub fn place(opcode: u8, param: u8, size: u8, address: u32) -> Result<Operation, Refusal>
+    ensures { λ r. ⌜ r ≡ placed opcode param size address ⌝ }
+{
+    let operation = Operation::read(opcode, param)?;
+    fit(operation, size, address)
+}
+
+fn fit(operation: Operation, size: u8, address: u32) -> Result<Operation, Refusal>
     ensures { λ r. ⌜ r ≡ fitted operation size address ⌝ }
 {
     if !size_fits(operation, size) {
@@ -32,5 +43,54 @@ fn size_fits(operation: Operation, size: u8) -> bool
     match operation {
         Operation::ArithmeticData(_) | Operation::LogicalData(_) => size == 2 || size == 3,
         _ => size <= 6,
+    }
+}
+
+// One bit for each byte of a message.
+fn whole_mask(size: u8) -> u64
+    requires { ⌜ size ≤ 6 ⌝ }
+    ensures { λ r. ⌜ r ≡ 2 ^ (2 ^ size) - 1 ⌝ }
+{
+    u64::MAX >> (64 - (1u32 << size))
+}
+
+fn mask_fits(operation: Operation, size: u8, mask: u64) -> bool
+    requires { ⌜ size ≤ 6 ⌝ }
+    ensures { λ r. ⌜ r ≡ mask-fits operation size mask ⌝ }
+{
+    match operation {
+        Operation::PutPartialData => mask <= whole_mask(size),
+        _ => mask == whole_mask(size),
+    }
+}
+
+fn data_length(operation: Operation, size: u8) -> usize
+    requires { ⌜ size ≤ 6 ⌝ }
+    ensures { λ r. ⌜ r ≡ data-length operation size ⌝ }
+{
+    if operation.has_data() { 1 << size } else { 0 }
+}
+
+fn fill(operation: Operation, size: u8, mask: u64, count: usize) -> Result<Operation, Refusal>
+    requires { ⌜ size ≤ 6 ⌝ }
+    ensures { λ r. ⌜ r ≡ filled operation size mask count ⌝ }
+{
+    if !mask_fits(operation, size, mask) {
+        return Err(Refusal::Mask);
+    }
+    if count != data_length(operation, size) {
+        return Err(Refusal::Data);
+    }
+    Ok(operation)
+}
+
+impl RequestHead {
+    // The operation of a legal request, or the first refusal that applies.
+    pub fn check(self, data: &[u8]) -> Result<Operation, Refusal>
+        ensures value { λ r. ⌜ r ≡ checked (record { head = self; bytes = now («data» .entry) }) ⌝ }
+        ensures legal { λ r. ⌜ ((o : Operation) → (r ≡ Ok o → Legal o (record { head = self; bytes = now («data» .entry) })) × (Legal o (record { head = self; bytes = now («data» .entry) }) → r ≡ Ok o)) ⌝ }
+    {
+        let operation = place(self.opcode, self.param, self.size, self.address)?;
+        fill(operation, self.size, self.mask, data.len())
     }
 }

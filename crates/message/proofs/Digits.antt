@@ -1,0 +1,54 @@
+-- Numbers by their binary digits.
+use mathlib.Core.Path.{_≡_, refl, sym, ap, subst, _∙_}
+use Prim.Native.Nat.{ℕ, zero, suc, _+_, _-_, _*_, _/_, _%_, _^_, _<_, _≤_}
+use native.Mathlib.Nat.{pow-zero, pow-suc, div-one, mul-comm, div-div-eq-div-mul, div-eq-of-lt}
+use native.Mathlib.Omega.{arith}
+use lib.Pow.{pow-pos, pow-mono}
+use Rattle.std.proofs.shelf.Bits.{shr-shr, div-add-mod', mod-below}
+use Rattle.message.specs.Bits.{bit}
+
+-- the digits of a number are its lowest one and those of its half
+pub bit-first : (n : ℕ) → bit n 0 ≡ n % 2
+bit-first n = ap (λ m. m % 2) (div-one n)
+
+pub bit-next : (n i : ℕ) → bit n (suc i) ≡ bit (n / 2) i
+bit-next n i =
+    ap (λ m. m % 2) (ap (λ m. n / m) (pow-suc 2 i ∙ mul-comm (2 ^ i) 2) ∙ sym (div-div-eq-div-mul n 2 (2 ^ i)))
+
+-- a number below a power of two has no digit from there on
+pub no-digit-above : (n k i : ℕ) → n < 2 ^ k → k ≤ i → bit n i ≡ 0
+no-digit-above n k i lt le =
+    let z : n / 2 ^ i ≡ 0 = div-eq-of-lt (omega (arith, pow-mono {i = k} {j = i} le)) in ap (λ m. m % 2) z
+
+below-power : (n : ℕ) → n < 2 ^ n
+below-power zero = omega arith
+below-power (suc n) = omega (arith, below-power n, pow-suc 2 n)
+
+no-digit : (w n : ℕ) → n < 2 ^ w → ((i : ℕ) → bit n i ≡ 0) → n ≡ 0
+no-digit zero n lt h = omega arith
+no-digit (suc w) n lt h =
+    let low : n % 2 ≡ 0 = sym (bit-first n) ∙ h 0 in
+    let high : n / 2 ≡ 0 = no-digit w (n / 2) (omega (arith, pow-suc 2 w)) (λ i. sym (bit-next n i) ∙ h (suc i)) in
+    omega arith
+
+-- a number with no digit from k on is below 2 ^ k
+pub below-from-digits : (n k : ℕ) → ((i : ℕ) → k ≤ i → bit n i ≡ 0) → n < 2 ^ k
+below-from-digits n k h =
+    let each : (i : ℕ) → bit (n / 2 ^ k) i ≡ 0 = λ i. ap (λ m. m % 2) (shr-shr n k i) ∙ h (k + i) (omega arith) in
+    let z : n / 2 ^ k ≡ 0 = no-digit (n / 2 ^ k) (n / 2 ^ k) (below-power (n / 2 ^ k)) each in
+    omega (arith, ap (λ m. m * 2 ^ k) z, div-add-mod' n (2 ^ k), mod-below n (2 ^ k) (pow-pos k))
+
+-- 2 ^ k - 1 has every digit below k
+pub every-digit : (k i : ℕ) → i < k → bit (2 ^ k - 1) i ≡ 1
+every-digit zero i lt = absurd (omega arith)
+every-digit (suc k) zero lt = bit-first (2 ^ suc k - 1) ∙ omega (arith, pow-suc 2 k, pow-pos k)
+every-digit (suc k) (suc i) lt =
+    let half : (2 ^ suc k - 1) / 2 ≡ 2 ^ k - 1 = omega (arith, pow-suc 2 k, pow-pos k) in
+    bit-next (2 ^ suc k - 1) i ∙ ap (λ m. bit m i) half ∙ every-digit k i (omega arith)
+
+pub full-from-digits : (k n : ℕ) → n < 2 ^ k → ((i : ℕ) → i < k → bit n i ≡ 1) → n ≡ 2 ^ k - 1
+full-from-digits zero n lt h = omega (arith, pow-zero 2)
+full-from-digits (suc k) n lt h =
+    let low : n % 2 ≡ 1 = sym (bit-first n) ∙ h 0 (omega arith) in
+    let high : n / 2 ≡ 2 ^ k - 1 = full-from-digits k (n / 2) (omega (arith, pow-suc 2 k)) (λ i le. sym (bit-next n i) ∙ h (suc i) (omega arith)) in
+    omega (arith, low, high, pow-suc 2 k, pow-pos k)
