@@ -18,7 +18,7 @@ use Rattle.message.specs.declared.operation.Operation.{Operation}
 use Rattle.message.specs.declared.operation.Operation.the-variants.{PutFullData, PutPartialData, ArithmeticData, LogicalData, Get, Intent}
 use Rattle.message.specs.Refusal.{unless-refused}
 use Rattle.message.specs.Operation.{operation-of, has-data}
-use Rattle.message.specs.Request.{Request, Legal, atomic, partial, size-fits, aligned, mask-fits, data-length, fitted, placed, filled, checked}
+use Rattle.message.specs.Request.{Request, Legal, atomic, partial, size-fits, aligned, mask-fits, data-length, fitted, placed, filled, checked, Tells-legal}
 use Rattle.message.proofs.Digits.{no-digit-above, below-from-digits, every-digit, full-from-digits}
 
 -- what is accepted passed the judgement before
@@ -121,5 +121,5 @@ legal-accepted q o l =
     let count : eqb (length (q .bytes)) (data-length o s) ≡ true = eq-eqb (length (q .bytes)) (data-length o s) (count-from (has-data o) (length (q .bytes)) (2 ^ s) (l .whole-data) (l .no-data)) in
     rw (l .operation, fits, whole, masks, count)
 
-pub legality : (q : Request) (r : Result Operation Refusal) → r ≡ checked q → (o : Operation) → (r ≡ Ok o → Legal o q) × (Legal o q → r ≡ Ok o)
+pub legality : (q : Request) (r : Result Operation Refusal) → r ≡ checked q → Tells-legal q r
 legality q r e o = ((λ h. accepted-legal q o (sym e ∙ h)), (λ l. e ∙ legal-accepted q o l))

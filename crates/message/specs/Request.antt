@@ -22,6 +22,9 @@ pub record Request : Type 0 where
   pub head : RequestHead
   pub bytes : List ℕ
 
+abbrev pub request : RequestHead → List ℕ → Request
+request head bytes = record { head = head; bytes = bytes }
+
 -- an atomic operation reads and writes one number of 4 or 8 bytes
 abbrev pub atomic : Operation → Bool
 atomic PutFullData = false
@@ -88,3 +91,7 @@ pub record Legal (o : Operation) (q : Request) : Type 0 where
   pub all-bits-below : partial o ≡ false → (i : ℕ) → i < 2 ^ q .head .size → bit (q .head .mask) i ≡ 1
   pub whole-data : has-data o ≡ true → length (q .bytes) ≡ 2 ^ q .head .size
   pub no-data : has-data o ≡ false → length (q .bytes) ≡ 0
+
+-- the answer r accepts exactly the legal requests, and tells their operation
+abbrev pub Tells-legal : Request → Result Operation Refusal → Type 0
+Tells-legal q r = (o : Operation) → (r ≡ Ok o → Legal o q) × (Legal o q → r ≡ Ok o)

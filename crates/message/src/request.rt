@@ -1,8 +1,6 @@
 ghost use mathlib.Core.Path.{_≡_};
 ghost use Prim.Native.Nat.{_-_, _^_, _≤_};
-ghost use Rattle.std.specs.declared.result.Result.the-variants.{Ok, Err};
-ghost use Rattle.message.specs.declared.operation.Operation.{Operation};
-ghost use Rattle.message.specs.Request.{Request, Legal, atomic, partial, size-fits, aligned, mask-fits, data-length, fitted, filled, placed, checked};
+ghost use Rattle.message.specs.Request.{request, size-fits, mask-fits, data-length, fitted, placed, filled, checked, Tells-legal};
 use crate::operation::Operation;
 use crate::refusal::Refusal;
 
@@ -87,8 +85,8 @@ fn fill(operation: Operation, size: u8, mask: u64, count: usize) -> Result<Opera
 impl RequestHead {
     // The operation of a legal request, or the first refusal that applies.
     pub fn check(self, data: &[u8]) -> Result<Operation, Refusal>
-        ensures value { λ r. ⌜ r ≡ checked (record { head = self; bytes = now («data» .entry) }) ⌝ }
-        ensures legal { λ r. ⌜ ((o : Operation) → (r ≡ Ok o → Legal o (record { head = self; bytes = now («data» .entry) })) × (Legal o (record { head = self; bytes = now («data» .entry) }) → r ≡ Ok o)) ⌝ }
+        ensures value { λ r. ⌜ r ≡ checked (request self (now («data» .entry))) ⌝ }
+        ensures legal { λ r. ⌜ Tells-legal (request self (now («data» .entry))) r ⌝ }
     {
         let operation = place(self.opcode, self.param, self.size, self.address)?;
         fill(operation, self.size, self.mask, data.len())

@@ -1,13 +1,13 @@
 use mathlib.Core.Path.{_≡_, sym}
 use borrow.Author.Needs.{needs}
-use Rattle.message.specs.Request.{Request, checked}
+use Rattle.message.specs.Request.{Request, request, checked}
 use Rattle.message.proofs.Judged.{placed-size, legality}
 use Rattle.message.proofs.request.RequestHead.check.Needs as need
 
 pub returns-in-Break-operation : need.returns-in-Break-operation
 unfolding checked
 returns-in-Break-operation c =
-    let q : Request = record { head = c .args .self; bytes = c .args .data .now } in
+    let q : Request = request (c .args .self) (c .args .data .now) in
     let e : c .from-residual .result ≡ checked q = search needs in
     record { value = e; legal = legality q (c .from-residual .result) e }
 
@@ -18,6 +18,6 @@ fill-requires c κs =
 pub returns : need.returns
 unfolding checked
 returns c =
-    let q : Request = record { head = c .args .self; bytes = c .args .data .now } in
+    let q : Request = request (c .args .self) (c .args .data .now) in
     let e : c .fill .result ≡ checked q = search needs in
     record { value = e; legal = legality q (c .fill .result) e }

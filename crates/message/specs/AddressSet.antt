@@ -1,0 +1,39 @@
+-- Sets of addresses, each told by its base and its mask.
+use mathlib.Core.Path.{_≡_}
+use mathlib.Core.Bool.{Bool, true, _&&_}
+use Prim.Native.Nat.{ℕ, _+_, _-_, _%_, _^_, _<_, _≤_}
+use lib.Bits.{bitAnd, bitOr, bitXor}
+use lib.Dec.{eqb}
+use Rattle.message.specs.Bits.{bit}
+use Rattle.message.specs.declared.request.RequestHead.{RequestHead}
+
+-- the 32 digits of a number, each turned
+abbrev pub inverted : ℕ → ℕ
+inverted n = 2 ^ 32 - 1 - n
+
+-- an address lies in the set if it differs from the base only where the mask is set
+abbrev pub contains : ℕ → ℕ → ℕ → Bool
+contains base mask address = eqb (bitAnd (bitXor address base) (inverted mask)) 0
+
+abbrev pub overlap : ℕ → ℕ → ℕ → ℕ → Bool
+overlap base₁ mask₁ base₂ mask₂ = eqb (bitAnd (bitXor base₁ base₂) (inverted (bitOr mask₁ mask₂))) 0
+
+-- a request lies in a set that contains its address and whose mask has its lowest `size` digits set
+abbrev pub lies-in : ℕ → ℕ → RequestHead → Bool
+lies-in base mask q = contains base mask (q .address) && eqb (mask % 2 ^ q .size) (2 ^ q .size - 1)
+
+-- two addresses have the same binary digits wherever the mask has none
+abbrev pub Same-digits : ℕ → ℕ → ℕ → Type 0
+Same-digits mask a b = (i : ℕ) → i < 32 → bit mask i ≡ 0 → bit a i ≡ bit b i
+
+-- a 32-bit address of the set
+abbrev pub Member : ℕ → ℕ → ℕ → Type 0
+Member base mask address = (address < 2 ^ 32) × (contains base mask address ≡ true)
+
+-- some address lies in both sets
+abbrev pub Meet : ℕ → ℕ → ℕ → ℕ → Type 0
+Meet base₁ mask₁ base₂ mask₂ = (a : ℕ) × Member base₁ mask₁ a × Member base₂ mask₂ a
+
+-- every byte of a request lies in the set
+abbrev pub Every-byte : ℕ → ℕ → RequestHead → Type 0
+Every-byte base mask q = (a : ℕ) → q .address ≤ a → a < q .address + 2 ^ q .size → Member base mask a
