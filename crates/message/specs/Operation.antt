@@ -14,8 +14,6 @@ use Rattle.message.specs.declared.operation.Operation.the-variants.{PutFullDat
 use Rattle.message.specs.declared.operation.Arithmetic.the-variants.{Min, Max, MinU, MaxU, Add}
 use Rattle.message.specs.declared.operation.Logical.the-variants.{Xor, Or, And, Swap}
 use Rattle.message.specs.declared.operation.Prefetch.the-variants.{Read, Write}
-use Rattle.message.specs.declared.operation.Answer.{Answer}
-use Rattle.message.specs.declared.operation.Answer.the-variants.{AccessAck, AccessAckData, HintAck}
 
 -- the operations: a row for each opcode from 0 on, in it one for each param from 0 on
 abbrev pub operations : List (List Operation)
@@ -41,18 +39,3 @@ has-data (ArithmeticData a) = true
 has-data (LogicalData l) = true
 has-data Get = false
 has-data (Intent p) = false
-
--- the message that answers it
-abbrev pub answer-to : Operation → Answer
-answer-to PutFullData = AccessAck
-answer-to PutPartialData = AccessAck
-answer-to (ArithmeticData a) = AccessAckData
-answer-to (LogicalData l) = AccessAckData
-answer-to Get = AccessAckData
-answer-to (Intent p) = HintAck
-
--- the opcode of an answer
-abbrev pub answer-number : Answer → ℕ
-answer-number AccessAck = 0
-answer-number AccessAckData = 1
-answer-number HintAck = 2

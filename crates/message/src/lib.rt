@@ -3,3 +3,4 @@ pub mod address_set;
 pub mod operation;
 pub mod refusal;
 pub mod request;
+pub mod response;

@@ -1,6 +1,8 @@
 ghost use mathlib.Core.Path.{_≡_};
-ghost use Rattle.message.specs.Operation.{operation-of, has-data, answer-to, answer-number};
+ghost use Rattle.message.specs.Operation.{operation-of, has-data};
+ghost use Rattle.message.specs.Response.{response-to};
 use crate::refusal::Refusal;
+use crate::response::ResponseOpcode;
 
 #[derive(Clone, Copy, PartialEq, Eq, Debug)]
 pub enum Arithmetic {
@@ -36,22 +38,6 @@ pub enum Operation {
     Intent(Prefetch),
 }
 
-// The message that answers a request, by the opcode that it carries.
-#[derive(Clone, Copy, PartialEq, Eq, Debug)]
-pub enum Answer {
-    AccessAck = 0,
-    AccessAckData = 1,
-    HintAck = 2,
-}
-
-impl Answer {
-    pub fn opcode(self) -> u8
-        ensures { λ r. ⌜ r ≡ answer-number self ⌝ }
-    {
-        self as u8
-    }
-}
-
 impl Operation {
     // The one place that knows the codes of requests.
     pub fn read(opcode: u8, param: u8) -> Result<Operation, Refusal>
@@ -84,15 +70,14 @@ impl Operation {
         !matches!(self, Operation::Get | Operation::Intent(_))
     }
 
-    // The message that answers it.
-    pub fn answer(self) -> Answer
-        ensures { λ r. ⌜ r ≡ answer-to self ⌝ }
+    // The response that the request gets.
+    pub fn response(self) -> ResponseOpcode
+        ensures { λ r. ⌜ r ≡ response-to self ⌝ }
     {
         match self {
-            Operation::PutFullData | Operation::PutPartialData => Answer::AccessAck,
-            Operation::ArithmeticData(_) | Operation::LogicalData(_) | Operation::Get =>
-                Answer::AccessAckData,
-            Operation::Intent(_) => Answer::HintAck,
+            Operation::PutFullData | Operation::PutPartialData => ResponseOpcode::AccessAck,
+            Operation::ArithmeticData(_) | Operation::LogicalData(_) | Operation::Get => ResponseOpcode::AccessAckData,
+            Operation::Intent(_) => ResponseOpcode::HintAck,
         }
     }
 }
