@@ -104,9 +104,9 @@ accepted-legal q o h =
       multiple = (q .head .address / 2 ^ s, omega (arith, div-add-mod' (q .head .address) (2 ^ s)));
       no-bit-above = λ i le. no-digit-above (q .head .mask) (2 ^ s) i (mask-below (partial o) (2 ^ s) (q .head .mask) masks) le;
       all-bits-below =
-        λ e i lt. rw (mask-full (partial o) (2 ^ s) (q .head .mask) masks e) (every-digit (2 ^ s) i lt);
+          λ e i lt. rw (mask-full (partial o) (2 ^ s) (q .head .mask) masks e) (every-digit (2 ^ s) i lt);
       whole-data = λ e. count ∙ cond-true (has-data o) (2 ^ s) 0 e;
-      no-data = λ e. count ∙ cond-false (has-data o) (2 ^ s) 0 e
+      no-data = λ e. count ∙ cond-false (has-data o) (2 ^ s) 0 e;
     }
 
 -- a legal request is not refused

@@ -13,10 +13,14 @@ zeros-answer : (o : Operation) (q : RequestHead) (d : Denial) → Answers o q (r
 zeros-answer o q d =
     let whole = length-replicate (response-length (response-to o) (q .size)) 0 in
     record {
-      opcode = refl; param = refl; size = refl; source = refl; address = refl;
+      opcode = refl;
+      param = refl;
+      size = refl;
+      source = refl;
+      address = refl;
       whole = whole;
       zeros = λ _. ap (λ n. replicate n 0) (sym whole);
-      unblamed = λ f. absurd (true≢false f)
+      unblamed = λ f. absurd (true≢false f);
     }
 
 pub denied-answers : (o : Operation) (q : RequestHead) (d : Denial) (h : ResponseHead) → h ≡ head-to o q true d → Answers o q (response h (replicate (response-length (response-to o) (q .size)) 0))

@@ -43,12 +43,12 @@ outside-digit : (x y mask : ℕ) → mask < 2 ^ 32 → Same-digits mask x y → 
 outside-digit x y mask below h i =
     and-digit (bitXor x y) (inverted mask) i
     ∙ ⊎-elim
-        (λ lt. ⊎-elim
-          (λ none. let d : bit (bitXor x y) i ≡ 0 = xor-digit x y i ∙ ap (λ n. differ n (bit y i)) (h i lt none) ∙ differ-same (bit y i) (mod-below (y / 2 ^ i) 2 (omega arith)) in omega arith)
-          (λ set. let d : bit (inverted mask) i ≡ 0 = not-digit 32 mask i below lt ∙ ap (λ n. 1 - n) set in omega arith)
-          (zero-or-one (mask / 2 ^ i)))
-        (λ le. let d : bit (inverted mask) i ≡ 0 = no-digit-above (inverted mask) 32 i (omega arith) le in omega arith)
-        (cases-lt i 32)
+    (λ lt. ⊎-elim
+    (λ none. let d : bit (bitXor x y) i ≡ 0 = xor-digit x y i ∙ ap (λ n. differ n (bit y i)) (h i lt none) ∙ differ-same (bit y i) (mod-below (y / 2 ^ i) 2 (omega arith)) in omega arith)
+    (λ set. let d : bit (inverted mask) i ≡ 0 = not-digit 32 mask i below lt ∙ ap (λ n. 1 - n) set in omega arith)
+    (zero-or-one (mask / 2 ^ i)))
+    (λ le. let d : bit (inverted mask) i ≡ 0 = no-digit-above (inverted mask) 32 i (omega arith) le in omega arith)
+    (cases-lt i 32)
 
 pub same-outside : (x y mask : ℕ) → mask < 2 ^ 32 → Decides (eqb (bitAnd (bitXor x y) (inverted mask)) 0) (Same-digits mask x y)
 same-outside x y mask below =
@@ -64,9 +64,9 @@ joined-digits : (base₁ mask₁ base₂ mask₂ : ℕ) → bitAnd base₂ mask�
 joined-digits base₁ mask₁ base₂ mask₂ apart h i lt none =
     or-digit base₁ base₂ i
     ∙ ⊎-elim
-        (λ free. let e : bit base₁ i ≡ bit base₂ i = h i lt (or-digit mask₁ mask₂ i ∙ omega arith) in omega arith)
-        (λ set. let e : bit base₂ i ≡ 0 = apart-digit base₂ mask₂ i apart set in omega arith)
-        (zero-or-one (mask₂ / 2 ^ i))
+    (λ free. let e : bit base₁ i ≡ bit base₂ i = h i lt (or-digit mask₁ mask₂ i ∙ omega arith) in omega arith)
+    (λ set. let e : bit base₂ i ≡ 0 = apart-digit base₂ mask₂ i apart set in omega arith)
+    (zero-or-one (mask₂ / 2 ^ i))
 
 same-or : (mask₁ mask₂ a b : ℕ) → Same-digits (bitOr mask₁ mask₂) a b → Same-digits (bitOr mask₂ mask₁) b a
 same-or mask₁ mask₂ a b h i lt none =
@@ -87,7 +87,7 @@ module _ (base₁ mask₁ base₂ mask₂ : ℕ) (b₁ : base₁ < 2 ^ 32) (m₁
       let left : Same-digits mask₁ a base₁ = same-outside a base₁ mask₁ m₁ .0 (p .1) in
       let right : Same-digits mask₂ a base₂ = same-outside a base₂ mask₂ m₂ .0 (q .1) in
       same-outside base₁ base₂ (bitOr mask₁ mask₂) (or-lt 32 mask₁ mask₂ m₁ m₂) .1
-        (λ i lt none. let e : max (bit mask₁ i) (bit mask₂ i) ≡ 0 = sym (or-digit mask₁ mask₂ i) ∙ none in sym (left i lt (omega arith)) ∙ right i lt (omega arith))
+      (λ i lt none. let e : max (bit mask₁ i) (bit mask₂ i) ≡ 0 = sym (or-digit mask₁ mask₂ i) ∙ none in sym (left i lt (omega arith)) ∙ right i lt (omega arith))
 
   pub overlap-meets : bitAnd base₁ mask₁ ≡ 0 → bitAnd base₂ mask₂ ≡ 0 → Decides (overlap base₁ mask₁ base₂ mask₂) (Meet base₁ mask₁ base₂ mask₂)
   overlap-meets apart₁ apart₂ = (met apart₁ apart₂, shared)
@@ -107,9 +107,10 @@ low-digit n (suc k) (suc i) lt =
     bit-next (n % 2 ^ suc k) i ∙ ap (λ m. bit m i) half ∙ low-digit (n / 2) k i (omega arith) ∙ sym (bit-next n i)
 
 pub low-digits-set : (n k : ℕ) → Decides (eqb (n % 2 ^ k) (2 ^ k - 1)) (Low-digits n k)
-low-digits-set n k =
-    ((λ h i lt. sym (low-digit n k i lt) ∙ ap (λ m. bit m i) (eqb-true (n % 2 ^ k) (2 ^ k - 1) h) ∙ every-digit k i lt),
-    (λ h. eq-eqb (n % 2 ^ k) (2 ^ k - 1) (full-from-digits k (n % 2 ^ k) (mod-below n (2 ^ k) (pow-pos k)) (λ i lt. low-digit n k i lt ∙ h i lt))))
+low-digits-set n k = (
+  (λ h i lt. sym (low-digit n k i lt) ∙ ap (λ m. bit m i) (eqb-true (n % 2 ^ k) (2 ^ k - 1) h) ∙ every-digit k i lt),
+  (λ h. eq-eqb (n % 2 ^ k) (2 ^ k - 1) (full-from-digits k (n % 2 ^ k) (mod-below n (2 ^ k) (pow-pos k)) (λ i lt. low-digit n k i lt ∙ h i lt))),
+)
 
 never-set : (n k : ℕ) → n % 2 ≡ 0 → Low-digits n (suc k) → ⊥
 never-set n k even h = omega (arith, bit-first n, h 0 (omega arith))
@@ -119,9 +120,10 @@ next-digits n k odd h zero lt = bit-first n ∙ odd
 next-digits n k odd h (suc i) lt = bit-next n i ∙ h i (omega arith)
 
 one-more : (n k t : ℕ) → n % 2 ≡ 1 → Decides (leb k t) (Low-digits (n / 2) k) → Decides (leb (suc k) (suc t)) (Low-digits n (suc k))
-one-more n k t odd rest =
-    ((λ h. next-digits n k odd (rest .0 (le-leb k t (omega (arith, leb-true (suc k) (suc t) h))))),
-    (λ h. le-leb (suc k) (suc t) (omega (arith, leb-true k t (rest .1 (λ i lt. sym (bit-next n i) ∙ h (suc i) (omega arith)))))))
+one-more n k t odd rest = (
+  (λ h. next-digits n k odd (rest .0 (le-leb k t (omega (arith, leb-true (suc k) (suc t) h))))),
+  (λ h. le-leb (suc k) (suc t) (omega (arith, leb-true k t (rest .1 (λ i lt. sym (bit-next n i) ∙ h (suc i) (omega arith)))))),
+)
 
 -- `trailing_ones` counts the lowest digits that are set
 trailing-ones : (w n k : ℕ) → n < 2 ^ w → Decides (leb k (trailingZeros w (2 ^ w - 1 - n))) (Low-digits n k)
@@ -132,13 +134,13 @@ trailing-ones (suc w) n (suc k) below =
     let half : (2 ^ suc w - 1 - n) / 2 ≡ 2 ^ w - 1 - n / 2 = half-turned w n below in
     let rest = trailing-ones w (n / 2) k (omega (arith, pow-suc 2 w)) in
     ⊎-elim
-      (λ even.
-        let last : (2 ^ suc w - 1 - n) % 2 ≡ 1 = omega (arith, pow-suc 2 w) in
-        rw last ((λ h. absurd (omega (arith, leb-true (suc k) 0 h))), (λ h. absurd (never-set n k even h))))
-      (λ odd.
-        let last : (2 ^ suc w - 1 - n) % 2 ≡ 0 = omega (arith, pow-suc 2 w) in
-        rw (last, half) (one-more n k (trailingZeros w (2 ^ w - 1 - n / 2)) odd rest))
-      (zero-or-one n)
+    (λ even.
+    let last : (2 ^ suc w - 1 - n) % 2 ≡ 1 = omega (arith, pow-suc 2 w) in
+    rw last ((λ h. absurd (omega (arith, leb-true (suc k) 0 h))), (λ h. absurd (never-set n k even h))))
+    (λ odd.
+    let last : (2 ^ suc w - 1 - n) % 2 ≡ 0 = omega (arith, pow-suc 2 w) in
+    rw (last, half) (one-more n k (trailingZeros w (2 ^ w - 1 - n / 2)) odd rest))
+    (zero-or-one n)
 
 pub low-ones : (mask size : ℕ) → mask < 2 ^ 32 → leb size (trailingZeros 32 (inverted mask)) ≡ eqb (mask % 2 ^ size) (2 ^ size - 1)
 low-ones mask size below =
@@ -163,9 +165,10 @@ module _ (base mask : ℕ) (b : base < 2 ^ 32) (m : mask < 2 ^ 32) (q : RequestH
       let set : Low-digits mask s = low-digits-set mask s .0 (parts .1) in
       let high-same : (i : ℕ) → s ≤ i → bit a i ≡ bit (q .address) i = λ i le. high-digit k s a i (omega arith) (omega arith) le ∙ ap (λ n. bit n i) e in
       let none : (i : ℕ) → 32 ≤ i → bit a i ≡ 0 = λ i le.
-        ⊎-elim (λ lt. absurd (omega (arith, set i lt, no-digit-above mask 32 i m le))) (λ ge. high-same i ge ∙ no-digit-above (q .address) 32 i below le) (cases-lt i s) in
-      (below-from-digits a 32 none,
-      same-outside a base mask m .1 (λ i lt free. ⊎-elim (λ l. absurd (omega (arith, set i l))) (λ ge. high-same i ge ∙ same i lt free) (cases-lt i s)))
+      ⊎-elim (λ lt. absurd (omega (arith, set i lt, no-digit-above mask 32 i m le))) (λ ge. high-same i ge ∙ no-digit-above (q .address) 32 i below le) (cases-lt i s) in (
+        below-from-digits a 32 none,
+        same-outside a base mask m .1 (λ i lt free. ⊎-elim (λ l. absurd (omega (arith, set i l))) (λ ge. high-same i ge ∙ same i lt free) (cases-lt i s)),
+      )
 
   whole-inside : Every-byte base mask q → lies-in base mask q ≡ true
   whole-inside h =
@@ -173,14 +176,14 @@ module _ (base mask : ℕ) (b : base < 2 ^ 32) (m : mask < 2 ^ 32) (q : RequestH
       let first = h (q .address) (omega arith) (omega (arith, pow-pos s)) in
       let same : Same-digits mask (q .address) base = same-outside (q .address) base mask m .0 (first .1) in
       let set : Low-digits mask s = λ i lt.
-        let byte = h (q .address + 2 ^ i) (omega arith) (omega (arith, pow-below i s lt)) in
-        let small : i < 32 = ⊎-elim (λ l. l) (λ ge. absurd (omega (arith, byte .0, pow-mono {i = 32} {j = i} ge))) (cases-lt i 32) in
-        ⊎-elim
-          (λ free.
-            let d : bit (q .address + 2 ^ i) i ≡ bit (q .address) i = same-outside (q .address + 2 ^ i) base mask m .0 (byte .1) i small free ∙ sym (same i small free) in
-            absurd (omega (arith, add-div-right (q .address) {k = 2 ^ i} (pow-pos i))))
-          (λ one. one)
-          (zero-or-one (mask / 2 ^ i)) in
+      let byte = h (q .address + 2 ^ i) (omega arith) (omega (arith, pow-below i s lt)) in
+      let small : i < 32 = ⊎-elim (λ l. l) (λ ge. absurd (omega (arith, byte .0, pow-mono {i = 32} {j = i} ge))) (cases-lt i 32) in
+      ⊎-elim
+      (λ free.
+      let d : bit (q .address + 2 ^ i) i ≡ bit (q .address) i = same-outside (q .address + 2 ^ i) base mask m .0 (byte .1) i small free ∙ sym (same i small free) in
+      absurd (omega (arith, add-div-right (q .address) {k = 2 ^ i} (pow-pos i))))
+      (λ one. one)
+      (zero-or-one (mask / 2 ^ i)) in
       and-from (contains base mask (q .address)) (eqb (mask % 2 ^ s) (2 ^ s - 1)) (first .1) (low-digits-set mask s .1 set)
 
   pub lies-whole : q .address < 2 ^ 32 → q .address % 2 ^ q .size ≡ 0 → Decides (lies-in base mask q) (Every-byte base mask q)

@@ -48,8 +48,13 @@ not-denied = record { cause = 0; place = 0; agent = 0 }
 abbrev pub head-to : Operation → RequestHead → Bool → Denial → ResponseHead
 head-to o q denied denial =
     record {
-      opcode = response-number (response-to o); param = 0; size = q .size; source = q .source; address = q .address;
-      denied = denied; denial = denial
+      opcode = response-number (response-to o);
+      param = 0;
+      size = q .size;
+      source = q .source;
+      address = q .address;
+      denied = denied;
+      denial = denial;
     }
 
 -- what it means that a response answers a request for the operation o

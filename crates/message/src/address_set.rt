@@ -9,7 +9,7 @@ use crate::refusal::Refusal;
 use crate::request::RequestHead;
 
 // The addresses that differ from the base only where the mask is set.
-#[derive(Clone, Copy, Debug)]
+#[derive(Clone, Copy)]
 pub struct AddressSet {
     base: u32,
     mask: u32,

@@ -3,8 +3,9 @@ ghost use Rattle.message.specs.Operation.{operation-of, has-data};
 ghost use Rattle.message.specs.Response.{response-to};
 use crate::refusal::Refusal;
 use crate::response::ResponseOpcode;
+use std::fmt;
 
-#[derive(Clone, Copy, PartialEq, Eq, Debug)]
+#[derive(Clone, Copy)]
 pub enum Arithmetic {
     Min,
     Max,
@@ -13,7 +14,7 @@ pub enum Arithmetic {
     Add,
 }
 
-#[derive(Clone, Copy, PartialEq, Eq, Debug)]
+#[derive(Clone, Copy)]
 pub enum Logical {
     Xor,
     Or,
@@ -21,14 +22,14 @@ pub enum Logical {
     Swap,
 }
 
-#[derive(Clone, Copy, PartialEq, Eq, Debug)]
+#[derive(Clone, Copy)]
 pub enum Prefetch {
     Read,
     Write,
 }
 
 // What a request asks for: its opcode and param, read.
-#[derive(Clone, Copy, PartialEq, Eq, Debug)]
+#[derive(Clone, Copy)]
 pub enum Operation {
     PutFullData,
     PutPartialData,
@@ -76,8 +77,35 @@ impl Operation {
     {
         match self {
             Operation::PutFullData | Operation::PutPartialData => ResponseOpcode::AccessAck,
-            Operation::ArithmeticData(_) | Operation::LogicalData(_) | Operation::Get => ResponseOpcode::AccessAckData,
+            Operation::ArithmeticData(_) | Operation::LogicalData(_) | Operation::Get =>
+                ResponseOpcode::AccessAckData,
             Operation::Intent(_) => ResponseOpcode::HintAck,
         }
+    }
+}
+
+// The operation's name in the specification, with its param's.
+pub impl fmt::Display for Operation as OperationDisplay {
+    fn fmt<W: fmt::Write>(&self, f: &mut fmt::Formatter<W>) -> fmt::Result {
+        f.pad(name(*self))
+    }
+}
+
+fn name(operation: Operation) -> &'static str {
+    match operation {
+        Operation::PutFullData => "PutFullData",
+        Operation::PutPartialData => "PutPartialData",
+        Operation::ArithmeticData(Arithmetic::Min) => "ArithmeticData MIN",
+        Operation::ArithmeticData(Arithmetic::Max) => "ArithmeticData MAX",
+        Operation::ArithmeticData(Arithmetic::MinU) => "ArithmeticData MINU",
+        Operation::ArithmeticData(Arithmetic::MaxU) => "ArithmeticData MAXU",
+        Operation::ArithmeticData(Arithmetic::Add) => "ArithmeticData ADD",
+        Operation::LogicalData(Logical::Xor) => "LogicalData XOR",
+        Operation::LogicalData(Logical::Or) => "LogicalData OR",
+        Operation::LogicalData(Logical::And) => "LogicalData AND",
+        Operation::LogicalData(Logical::Swap) => "LogicalData SWAP",
+        Operation::Get => "Get",
+        Operation::Intent(Prefetch::Read) => "Intent PrefetchRead",
+        Operation::Intent(Prefetch::Write) => "Intent PrefetchWrite",
     }
 }

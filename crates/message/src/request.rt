@@ -5,7 +5,7 @@ use crate::operation::Operation;
 use crate::refusal::Refusal;
 
 // A request without its data: plain numbers, as they come. Bit i of the mask belongs to byte i.
-#[derive(Clone, Copy, PartialEq, Eq, Debug)]
+#[derive(Clone, Copy)]
 pub struct RequestHead {
     pub opcode: u8,
     pub param: u8,

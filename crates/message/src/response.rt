@@ -8,7 +8,7 @@ ghost use Rattle.message.specs.Response.{response, response-to, response-numbe
 use crate::operation::Operation;
 use crate::request::RequestHead;
 
-#[derive(Clone, Copy, PartialEq, Eq, Debug)]
+#[derive(Clone, Copy)]
 pub enum ResponseOpcode {
     AccessAck = 0,
     AccessAckData = 1,
@@ -24,7 +24,7 @@ impl ResponseOpcode {
 }
 
 // Why a request was denied, at which address, and by which agent: all 0 where it was not.
-#[derive(Clone, Copy, PartialEq, Eq, Debug)]
+#[derive(Clone, Copy)]
 pub struct Denial {
     pub cause: u8,
     pub place: u32,
@@ -32,7 +32,7 @@ pub struct Denial {
 }
 
 // A response without its data: plain numbers, as they come.
-#[derive(Clone, Copy, PartialEq, Eq, Debug)]
+#[derive(Clone, Copy)]
 pub struct ResponseHead {
     pub opcode: u8,
     pub param: u8,
@@ -49,7 +49,16 @@ impl ResponseHead {
         ensures value { λ r. ⌜ r ≡ head-to operation request false not-denied ⌝ }
         ensures answers { λ r. ⌜ ((bytes : List ℕ) → length bytes ≡ response-length (response-to operation) (request .size) → Answers operation request (response r bytes)) ⌝ }
     {
-        answer(operation, request, false, Denial { cause: 0, place: 0, agent: 0 })
+        answer(
+            operation,
+            request,
+            false,
+            Denial {
+                cause: 0,
+                place: 0,
+                agent: 0,
+            },
+        )
     }
 
     // The response to a request that an agent denies; the place of a denial is the request's address.
@@ -57,7 +66,16 @@ impl ResponseHead {
         ensures value { λ r. ⌜ r ≡ head-to operation request true (record { cause = cause; place = request .address; agent = agent }) ⌝ }
         ensures answers { λ r. ⌜ Answers operation request (response r (replicate (response-length (response-to operation) (request .size)) 0)) ⌝ }
     {
-        answer(operation, request, true, Denial { cause, place: request.address, agent })
+        answer(
+            operation,
+            request,
+            true,
+            Denial {
+                cause,
+                place: request.address,
+                agent,
+            },
+        )
     }
 
     // Whether two responses, each with its data, agree in opcode, size, denied and data.

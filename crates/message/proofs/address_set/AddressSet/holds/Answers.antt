@@ -16,5 +16,5 @@ returns-then-contains c =
     let same : leb (c .from .result) (c .trailing-ones .result) ≡ lies-in (s .base) (s .mask) q = search needs in
     record {
       value = same;
-      bytes = λ whole. subst (λ r. Decides r (Every-byte (s .base) (s .mask) q)) (sym same) (lies-whole (s .base) (s .mask) (omega arith) (omega arith) q (omega arith) whole)
+      bytes = λ whole. subst (λ r. Decides r (Every-byte (s .base) (s .mask) q)) (sym same) (lies-whole (s .base) (s .mask) (omega arith) (omega arith) q (omega arith) whole);
     }

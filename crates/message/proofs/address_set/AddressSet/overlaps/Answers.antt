@@ -10,5 +10,5 @@ returns c =
     let b = c .args .other in
     record {
       value = refl;
-      meet = overlap-meets (a .base) (a .mask) (b .base) (b .mask) (omega arith) (omega arith) (omega arith) (omega arith) (a .apart) (b .apart)
+      meet = overlap-meets (a .base) (a .mask) (b .base) (b .mask) (omega arith) (omega arith) (omega arith) (omega arith) (a .apart) (b .apart);
     }

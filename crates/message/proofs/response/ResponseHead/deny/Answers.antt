@@ -6,5 +6,5 @@ returns c =
     let q = c .args .request in
     record {
       value = c .answer .ensures;
-      answers = denied-answers (c .args .operation) q (record { cause = c .args .cause; place = q .address; agent = c .args .agent }) (c .answer .result) (c .answer .ensures)
+      answers = denied-answers (c .args .operation) q (record { cause = c .args .cause; place = q .address; agent = c .args .agent }) (c .answer .result) (c .answer .ensures);
     }
