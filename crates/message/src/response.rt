@@ -31,6 +31,14 @@ pub struct Denial {
     pub agent: u8,
 }
 
+impl Denial {
+    pub const NONE: Denial = Denial {
+        cause: 0,
+        place: 0,
+        agent: 0,
+    };
+}
+
 // A response without its data: plain numbers, as they come.
 #[derive(Clone, Copy)]
 pub struct ResponseHead {
@@ -49,16 +57,7 @@ impl ResponseHead {
         ensures value { λ r. ⌜ r ≡ head-to operation request false not-denied ⌝ }
         ensures answers { λ r. ⌜ ((bytes : List ℕ) → length bytes ≡ response-length (response-to operation) (request .size) → Answers operation request (response r bytes)) ⌝ }
     {
-        answer(
-            operation,
-            request,
-            false,
-            Denial {
-                cause: 0,
-                place: 0,
-                agent: 0,
-            },
-        )
+        answer(operation, request, false, Denial::NONE)
     }
 
     // The response to a request that an agent denies; the place of a denial is the request's address.
@@ -66,13 +65,14 @@ impl ResponseHead {
         ensures value { λ r. ⌜ r ≡ head-to operation request true (record { cause = cause; place = request .address; agent = agent }) ⌝ }
         ensures answers { λ r. ⌜ Answers operation request (response r (replicate (response-length (response-to operation) (request .size)) 0)) ⌝ }
     {
+        let place = request.address;
         answer(
             operation,
             request,
             true,
             Denial {
                 cause,
-                place: request.address,
+                place,
                 agent,
             },
         )

@@ -15,5 +15,5 @@ returns c =
       full-fe = ap number-of (c .check-4 .ensures .value);
       contains-1fff = search needs;
       contains-2000 = search needs;
-      overlaps = search needs
+      overlaps = search needs;
     }
