@@ -1,0 +1,2 @@
+// Request sheets: text that field engineers type, one request to a line.
+pub mod numeral;
