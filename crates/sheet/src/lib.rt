@@ -1,2 +1,3 @@
 // Request sheets: text that field engineers type, one request to a line.
 pub mod numeral;
+pub mod words;
