@@ -123,3 +123,16 @@ pairs-more-by front (x ∷ y ∷ xs) b h e =
 pub mapped-same : (o : Option (List ℕ)) → mapped (λ more. [] ++ more) o ≡ o
 mapped-same None = refl
 mapped-same (Some more) = refl
+
+pub number-bound : (base : Base) (limit : ℕ) (word : List ℕ) (n : ℕ) → number-of base limit word ≡ Some n → n ≤ limit
+unfolding number-of
+number-bound base limit [] n e = absurd (let z : _≡_ {A = ℕ} 0 1 = cc in omega arith)
+number-bound base limit (b ∷ bs) n e = of-digits (digits-of base (b ∷ bs)) e
+  where
+    of-value : (m : ℕ) (t : Bool) → leb m limit ≡ t → cond t (Some m) None ≡ Some n → n ≤ limit
+    of-value m true l e = let same : m ≡ n = cc in omega (arith, leb-true _ _ l)
+    of-value m false l e = absurd (let z : _≡_ {A = ℕ} 0 1 = cc in omega arith)
+
+    of-digits : (o : Option (List ℕ)) → and-then o (λ ds. at-most limit (value base ds)) ≡ Some n → n ≤ limit
+    of-digits None e = absurd (let z : _≡_ {A = ℕ} 0 1 = cc in omega arith)
+    of-digits (Some ds) e = of-value (value base ds) (leb (value base ds) limit) refl e
