@@ -11,16 +11,23 @@ use Rattle.message.specs.declared.request.RequestHead.{RequestHead}
 abbrev pub inverted : ℕ → ℕ
 inverted n = 2 ^ 32 - 1 - n
 
--- an address lies in the set if it differs from the base only where the mask is set
+-- two addresses that differ at most where the mask is set
+abbrev pub agree-outside : ℕ → ℕ → ℕ → Bool
+agree-outside mask a b = eqb (bitAnd (bitXor a b) (inverted mask)) 0
+
+abbrev pub low-bits-set : ℕ → ℕ → Bool
+low-bits-set mask count = eqb (mask % 2 ^ count) (2 ^ count - 1)
+
+-- an address lies in a set if it differs from the base at most where the mask is set
 abbrev pub contains : ℕ → ℕ → ℕ → Bool
-contains base mask address = eqb (bitAnd (bitXor address base) (inverted mask)) 0
+contains base mask address = agree-outside mask address base
 
 abbrev pub overlap : ℕ → ℕ → ℕ → ℕ → Bool
-overlap base₁ mask₁ base₂ mask₂ = eqb (bitAnd (bitXor base₁ base₂) (inverted (bitOr mask₁ mask₂))) 0
+overlap base₁ mask₁ base₂ mask₂ = agree-outside (bitOr mask₁ mask₂) base₁ base₂
 
--- a request lies in a set that contains its address and whose mask has its lowest `size` digits set
+-- a request lies in a set that contains its address and whose mask has its lowest `size` bits set
 abbrev pub lies-in : ℕ → ℕ → RequestHead → Bool
-lies-in base mask q = contains base mask (q .address) && eqb (mask % 2 ^ q .size) (2 ^ q .size - 1)
+lies-in base mask q = contains base mask (q .address) && low-bits-set mask (q .size)
 
 -- two addresses have the same binary digits wherever the mask has none
 abbrev pub Same-digits : ℕ → ℕ → ℕ → Type 0

@@ -69,8 +69,11 @@ pub record Answers (o : Operation) (q : RequestHead) (a : Response) : Type 0 whe
   pub unblamed : a .head .denied ≡ false → a .head .denial ≡ not-denied
 
 -- two responses are alike when these agree; source, address and denial do not count
+pub record Heads-alike (a b : ResponseHead) : Type 0 where
+  pub opcode : a .opcode ≡ b .opcode
+  pub size : a .size ≡ b .size
+  pub denied : a .denied ≡ b .denied
+
 pub record Alike (a b : Response) : Type 0 where
-  pub opcode : a .head .opcode ≡ b .head .opcode
-  pub size : a .head .size ≡ b .head .size
-  pub denied : a .head .denied ≡ b .head .denied
+  pub heads : Heads-alike (a .head) (b .head)
   pub bytes : a .bytes ≡ b .bytes

@@ -4,7 +4,7 @@ ghost use Prim.Native.Nat.{_%_, _^_};
 ghost use lib.Bits.{bitAnd};
 ghost use Rattle.std.specs.Orderings.{Decides};
 ghost use Rattle.std.specs.declared.result.Result.the-variants.{Ok, Err};
-ghost use Rattle.message.specs.AddressSet.{contains, overlap, lies-in, Same-digits, Meet, Every-byte};
+ghost use Rattle.message.specs.AddressSet.{agree-outside, low-bits-set, contains, overlap, lies-in, Same-digits, Meet, Every-byte};
 use crate::refusal::Refusal;
 use crate::request::RequestHead;
 
@@ -42,7 +42,7 @@ impl AddressSet {
         ensures value { λ r. ⌜ r ≡ contains (self .base) (self .mask) address ⌝ }
         ensures digits { λ r. ⌜ Decides r (Same-digits (self .mask) address (self .base)) ⌝ }
     {
-        (address ^ self.base) & !self.mask == 0
+        agree_outside(self.mask, address, self.base)
     }
 
     // Whether some address lies in both sets.
@@ -50,14 +50,39 @@ impl AddressSet {
         ensures value { λ r. ⌜ r ≡ overlap (self .base) (self .mask) (other .base) (other .mask) ⌝ }
         ensures meet { λ r. ⌜ Decides r (Meet (self .base) (self .mask) (other .base) (other .mask)) ⌝ }
     {
-        (self.base ^ other.base) & !(self.mask | other.mask) == 0
+        bases_agree(self, other)
     }
 
-    // Whether a request lies in the set: all of its bytes do, where its address is a multiple of its size.
+    // Whether a request lies in the set: every byte of it does, where its address is a multiple of its size.
     pub fn holds(self, head: RequestHead) -> bool
         ensures value { λ r. ⌜ r ≡ lies-in (self .base) (self .mask) head ⌝ }
         ensures bytes { λ r. ⌜ (head .address % 2 ^ head .size ≡ 0 → Decides r (Every-byte (self .base) (self .mask) head)) ⌝ }
     {
-        self.contains(head.address) && u32::from(head.size) <= self.mask.trailing_ones()
+        lies_in(self, head)
     }
+}
+
+// The formulas; the calls above say what they mean.
+fn agree_outside(mask: u32, a: u32, b: u32) -> bool
+    ensures { λ r. ⌜ r ≡ agree-outside mask a b ⌝ }
+{
+    (a ^ b) & !mask == 0
+}
+
+fn bases_agree(one: AddressSet, other: AddressSet) -> bool
+    ensures { λ r. ⌜ r ≡ overlap (one .base) (one .mask) (other .base) (other .mask) ⌝ }
+{
+    agree_outside(one.mask | other.mask, one.base, other.base)
+}
+
+fn lies_in(set: AddressSet, head: RequestHead) -> bool
+    ensures { λ r. ⌜ r ≡ lies-in (set .base) (set .mask) head ⌝ }
+{
+    agree_outside(set.mask, head.address, set.base) && low_bits_set(set.mask, head.size)
+}
+
+fn low_bits_set(mask: u32, count: u8) -> bool
+    ensures { λ r. ⌜ r ≡ low-bits-set mask count ⌝ }
+{
+    u32::from(count) <= mask.trailing_ones()
 }

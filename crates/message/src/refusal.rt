@@ -1,5 +1,6 @@
 ghost use mathlib.Core.Path.{_≡_};
 ghost use Rattle.message.specs.Refusal.{refusal-number};
+use std::error::Error;
 use std::fmt;
 
 // Why a call is refused: one list for the whole product, each with its number.
@@ -42,6 +43,8 @@ pub impl fmt::Display for Refusal as RefusalDisplay {
         f.pad(meaning(*self))
     }
 }
+
+pub impl Error for Refusal as RefusalError {}
 
 fn meaning(refusal: Refusal) -> &'static str {
     match refusal {

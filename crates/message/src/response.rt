@@ -4,7 +4,7 @@ ghost use mathlib.Core.List.{List};
 ghost use Prim.Native.Nat.{ℕ};
 ghost use lib.ListN.{length, replicate};
 ghost use Rattle.std.specs.Orderings.{Decides};
-ghost use Rattle.message.specs.Response.{response, response-to, response-number, response-length, not-denied, head-to, Answers, Alike};
+ghost use Rattle.message.specs.Response.{response, response-to, response-number, response-length, not-denied, head-to, Answers, Heads-alike, Alike};
 use crate::operation::Operation;
 use crate::request::RequestHead;
 
@@ -82,11 +82,17 @@ impl ResponseHead {
     pub fn alike(self, data: &[u8], other: ResponseHead, other_data: &[u8]) -> bool
         ensures { λ r. ⌜ Decides r (Alike (response self (now («data» .entry))) (response other (now («other_data» .entry)))) ⌝ }
     {
-        if self.opcode != other.opcode || self.size != other.size || self.denied != other.denied {
-            return false;
-        }
-        data == other_data
+        heads_alike(self, other) && data == other_data
     }
+}
+
+fn heads_alike(one: ResponseHead, other: ResponseHead) -> bool
+    ensures { λ r. ⌜ Decides r (Heads-alike one other) ⌝ }
+{
+    if one.opcode != other.opcode || one.size != other.size {
+        return false;
+    }
+    one.denied == other.denied
 }
 
 fn answer(operation: Operation, request: RequestHead, denied: bool, denial: Denial) -> ResponseHead

@@ -1,6 +1,6 @@
-use mathlib.Core.Path.{refl}
-use Prim.Native.Nat.{_^_, _<_}
 use native.Mathlib.Omega.{arith}
+use Rattle.std.proofs.shelf.Ways.{decides-at}
+use Rattle.message.specs.AddressSet.{overlap}
 use Rattle.message.proofs.Sets.{overlap-meets}
 use Rattle.message.proofs.address_set.AddressSet.overlaps.Needs as need
 
@@ -9,6 +9,6 @@ returns c =
     let a = c .args .self in
     let b = c .args .other in
     record {
-      value = refl;
-      meet = overlap-meets (a .base) (a .mask) (b .base) (b .mask) (omega arith) (omega arith) (omega arith) (omega arith) (a .apart) (b .apart);
+      value = c .bases-agree .ensures;
+      meet = decides-at (c .bases-agree .result) (overlap (a .base) (a .mask) (b .base) (b .mask)) (c .bases-agree .ensures) (overlap-meets (a .base) (a .mask) (b .base) (b .mask) (omega arith) (omega arith) (omega arith) (omega arith) (a .apart) (b .apart));
     }

@@ -1,0 +1,2 @@
+pub mod AddressMap
+pub mod Report

@@ -1,0 +1,7 @@
+use borrow.Author.Needs.{needs}
+use Rattle.sheet.specs.Words.{comment}
+use Rattle.sheet.proofs.words.Stretch.takes.Needs as need
+
+pub returns-in-BeforeComment : need.returns-in-BeforeComment
+unfolding comment
+returns-in-BeforeComment c = search needs

@@ -1,0 +1,92 @@
+-- What a line of a sheet says.
+use mathlib.Core.Bool.{cond, _||_}
+use mathlib.Core.List.{List, [], _∷_}
+use Prim.Native.Nat.{ℕ, _-_, _^_}
+use lib.Dec.{eqb}
+use lib.ListN.{length, getD}
+use Rattle.std.specs.Of.Vec.{vec-items}
+use Rattle.std.specs.Options.{okOr}
+use Rattle.std.specs.declared.result.Result.{Result}
+use Rattle.std.specs.declared.result.Result.the-variants.{Ok, Err}
+use Rattle.message.specs.declared.request.RequestHead.{RequestHead}
+use Rattle.message.specs.Request.{Request}
+use Rattle.sheet.specs.declared.line.Field.{Field}
+use Rattle.sheet.specs.declared.line.Field.the-variants as field
+use Rattle.sheet.specs.declared.line.Fault.{Fault}
+use Rattle.sheet.specs.declared.line.Fault.the-variants as fault
+use Rattle.sheet.specs.declared.line.Line.{Line}
+use Rattle.sheet.specs.declared.line.Line.the-variants as line
+use Rattle.sheet.specs.declared.numeral.Base.the-variants.{Decimal, Hexadecimal}
+use Rattle.sheet.specs.Numeral.{number-of, bytes-of}
+use Rattle.sheet.specs.Words.{words-of}
+
+-- the next field, read only where those before it could be
+abbrev pub then-read : {A B : Type 0} → Result A Field → (A → Result B Field) → Result B Field
+then-read (Ok a) next = next a
+then-read (Err f) next = Err f
+
+-- opcode, param, size and source: decimal, at most 255
+abbrev pub small-of : Field → List ℕ → Result ℕ Field
+small-of f word = okOr (number-of Decimal 255 word) f
+
+-- hexadecimal, below 2 ^ 32
+abbrev pub address-of : List ℕ → Result ℕ Field
+address-of word = okOr (number-of Hexadecimal (2 ^ 32 - 1) word) field.Address
+
+-- hexadecimal, below 2 ^ 64
+abbrev pub mask-of : List ℕ → Result ℕ Field
+mask-of word = okOr (number-of Hexadecimal (2 ^ 64 - 1) word) field.Mask
+
+-- the word at a place, which is empty past the last
+abbrev pub word : List (List ℕ) → ℕ → List ℕ
+word words i = getD words i []
+
+-- a head of its fields, or the first of them that is at fault
+abbrev pub head-by : (opcode param size source address mask : Result ℕ Field) → Result RequestHead Field
+head-by opcode param size source address mask =
+    then-read opcode (λ o. then-read param (λ p. then-read size (λ z. then-read source (λ s. then-read address (λ a. then-read mask (λ m. Ok (record { opcode = o; param = p; size = z; source = s; address = a; mask = m })))))))
+
+-- the head that the first six words write
+unfoldable pub head-of : List (List ℕ) → Result RequestHead Field
+head-of words =
+    head-by
+    (small-of field.Opcode (word words 0))
+    (small-of field.Param (word words 1))
+    (small-of field.Size (word words 2))
+    (small-of field.Source (word words 3))
+    (address-of (word words 4))
+    (mask-of (word words 5))
+
+-- the data, which is judged last
+abbrev pub data-of : List ℕ → Result (List ℕ) Field
+data-of word = okOr (bytes-of word) field.Data
+
+-- the request that the words of its head and the word of its data write
+unfoldable pub request-of : List (List ℕ) → List ℕ → Result Request Field
+request-of words last = then-read (head-of words) (λ h. then-read (data-of last) (λ bs. Ok (record { head = h; bytes = bs })))
+
+-- what a line can say
+pub data Reading : Type 0 where
+  nothing : Reading
+  request : Request → Reading
+  unreadable : Fault → Reading
+
+abbrev pub told : Result Request Field → Reading
+told (Ok q) = request q
+told (Err f) = unreadable (fault.Field f)
+
+-- what words say together: six, or seven with data
+unfoldable pub reading : List (List ℕ) → Reading
+reading words =
+    cond (eqb (length words) 0) nothing (
+    cond (eqb (length words) 6 || eqb (length words) 7) (told (request-of words (word words 6))) (unreadable fault.WordCount))
+
+-- what a line says
+abbrev pub line-of : List ℕ → Reading
+line-of line = reading (words-of line)
+
+-- what the answer to a line says
+abbrev pub view : Line → Reading
+view line.Nothing = nothing
+view (line.Request entry) = request (record { head = entry .head; bytes = vec-items (entry .«data») })
+view (line.Unreadable why) = unreadable why

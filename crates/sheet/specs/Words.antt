@@ -1,0 +1,49 @@
+-- The words of a line.
+use mathlib.Core.Bool.{Bool, true, false, cond, not, _||_}
+use mathlib.Core.List.{List, [], _∷_}
+use Prim.Native.Nat.{ℕ}
+use lib.Dec.{eqb}
+use Rattle.std.specs.shelf.Lists.{kept-by}
+use Rattle.sheet.specs.declared.words.Stretch.{Stretch}
+use Rattle.sheet.specs.declared.words.Stretch.the-variants.{Blanks, Word, BeforeComment}
+
+-- space, tab and carriage return
+unfoldable pub blank : ℕ → Bool
+blank byte = eqb byte 32 || (eqb byte 9 || eqb byte 13)
+
+-- `#`
+unfoldable pub comment : ℕ → Bool
+comment byte = eqb byte 35
+
+-- the bytes of each stretch of a line
+abbrev pub belongs : Stretch → ℕ → Bool
+belongs Blanks byte = blank byte
+belongs Word byte = not (blank byte)
+belongs BeforeComment byte = not (comment byte)
+
+-- a line without its comment
+abbrev pub said : List ℕ → List ℕ
+said [] = []
+said (b ∷ bs) = cond (comment b) [] (b ∷ said bs)
+
+-- a byte more at the front of the first piece
+abbrev pub joined-on : ℕ → List (List ℕ) → List (List ℕ)
+joined-on b [] = (b ∷ []) ∷ []
+joined-on b (piece ∷ pieces) = (b ∷ piece) ∷ pieces
+
+-- a text cut at each blank: the pieces between them, of which some may be empty
+abbrev pub pieces : List ℕ → List (List ℕ)
+pieces [] = [] ∷ []
+pieces (b ∷ bs) = cond (blank b) ([] ∷ pieces bs) (joined-on b (pieces bs))
+
+abbrev pub some : List ℕ → Bool
+some [] = false
+some (b ∷ bs) = true
+
+-- the longest runs of bytes that are no blanks: the pieces that are not empty
+unfoldable pub runs : List ℕ → List (List ℕ)
+runs text = kept-by some (pieces text)
+
+-- the words of a line: the runs before its comment
+unfoldable pub words-of : List ℕ → List (List ℕ)
+words-of line = runs (said line)

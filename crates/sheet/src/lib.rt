@@ -1,0 +1,4 @@
+// Request sheets: text that field engineers type, one request to a line.
+pub mod line;
+pub mod numeral;
+pub mod words;
