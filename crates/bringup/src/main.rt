@@ -3,9 +3,13 @@ mod address_map;
 mod report;
 
 use address_map::AddressMap;
+use address_map::AddressMapDisplay;
+use message::refusal::RefusalError;
 use report::Row;
+use report::RowDisplay;
 use report::Tally;
-use report::Unreadable;
+use report::TallyDisplay;
+use sheet::line::FaultDisplay;
 use sheet::line::Line;
 use sheet::line::read_line;
 use std::error::AnyError;

@@ -72,19 +72,23 @@ impl Row {
 
 pub impl fmt::Display for Row as RowDisplay {
     fn fmt<W: fmt::Write>(&self, f: &mut fmt::Formatter<W>) -> fmt::Result {
-        let line = self.line;
-        let address = self.head.address;
-        let verdict = self.verdict;
-        write!(f, "{line:>4}  ")?;
-        match Operation::read(self.head.opcode, self.head.param) {
-            Ok(operation) => write!(f, "{operation:<20}")?,
-            Err(_) => write!(f, "{:<20}", "-")?,
+        let Row { line, head, verdict } = *self;
+        let operation = OrDash(Operation::read(head.opcode, head.param).ok());
+        let address = head.address;
+        let bytes = OrDash(if head.size <= 6 { Some(1u8 << head.size) } else { None });
+        write!(f, "{line:>4}  {operation:<20}  {address:08x}  {bytes:>5}  {verdict}")
+    }
+}
+
+// A dash where there is nothing to show.
+#[derive(Drop)]
+struct OrDash<T>(Option<T>);
+
+impl<T: fmt::Display> fmt::Display for OrDash<T> as OrDashDisplay {
+    fn fmt<W: fmt::Write>(&self, f: &mut fmt::Formatter<W>) -> fmt::Result {
+        match &self.0 {
+            Some(value) => value.fmt(f),
+            None => f.pad("-"),
         }
-        write!(f, "  {address:08x}  ")?;
-        match self.head.size {
-            0..=6 => write!(f, "{:>5}", 1u8 << self.head.size)?,
-            _ => write!(f, "{:>5}", "-")?,
-        }
-        write!(f, "  {verdict}")
     }
 }

@@ -9,6 +9,7 @@ use crate::words::words;
 use message::request::RequestHead;
 use std::alloc::AllocError;
 use std::alloc::Global;
+use std::fmt;
 
 // The fields of a request, in the order in which a line has them.
 #[derive(Clone, Copy, PartialEq, Eq, Debug)]
@@ -41,6 +42,25 @@ pub enum Line {
     Nothing,
     Request(Entry),
     Unreadable(Fault),
+}
+
+pub impl fmt::Display for Fault as FaultDisplay {
+    fn fmt<W: fmt::Write>(&self, f: &mut fmt::Formatter<W>) -> fmt::Result {
+        f.pad(meaning(*self))
+    }
+}
+
+fn meaning(fault: Fault) -> &'static str {
+    match fault {
+        Fault::WordCount => "not the six words of a request, or seven with its data",
+        Fault::Field(Field::Opcode) => "OPCODE is no decimal number up to 255",
+        Fault::Field(Field::Param) => "PARAM is no decimal number up to 255",
+        Fault::Field(Field::Size) => "SIZE is no decimal number up to 255",
+        Fault::Field(Field::Source) => "SOURCE is no decimal number up to 255",
+        Fault::Field(Field::Address) => "ADDRESS is no hexadecimal number of 32 bits",
+        Fault::Field(Field::Mask) => "MASK is no hexadecimal number of 64 bits",
+        Fault::Field(Field::Data) => "DATA is no row of hexadecimal byte pairs",
+    }
 }
 
 fn small_field(word: &[u8], field: Field) -> Result<u8, Field>
