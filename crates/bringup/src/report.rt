@@ -72,11 +72,22 @@ impl Row {
 
 pub impl fmt::Display for Row as RowDisplay {
     fn fmt<W: fmt::Write>(&self, f: &mut fmt::Formatter<W>) -> fmt::Result {
-        let Row { line, head, verdict } = *self;
+        let Row {
+            line,
+            head,
+            verdict,
+        } = *self;
         let operation = OrDash(Operation::read(head.opcode, head.param).ok());
         let address = head.address;
-        let bytes = OrDash(if head.size <= 6 { Some(1u8 << head.size) } else { None });
-        write!(f, "{line:>4}  {operation:<20}  {address:08x}  {bytes:>5}  {verdict}")
+        let bytes = OrDash(if head.size <= 6 {
+            Some(1u8 << head.size)
+        } else {
+            None
+        });
+        write!(
+            f,
+            "{line:>4}  {operation:<20}  {address:08x}  {bytes:>5}  {verdict}"
+        )
     }
 }
 
