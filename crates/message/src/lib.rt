@@ -4,3 +4,5 @@ pub mod operation;
 pub mod refusal;
 pub mod request;
 pub mod response;
+#[cfg(test)]
+mod tests;
