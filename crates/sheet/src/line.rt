@@ -1,7 +1,7 @@
 ghost use mathlib.Core.Path.{_≡_};
 ghost use mathlib.Core.List.{map};
 ghost use Rattle.std.specs.Vec.{made};
-ghost use Rattle.sheet.specs.Line.{small-of, address-of, head-of, request-of, told, view, line-of};
+ghost use Rattle.sheet.specs.Line.{small-of, address-of, head-of, request-of, told, reading, view, line-of};
 use crate::numeral::Base;
 use crate::numeral::byte_pairs;
 use crate::numeral::number;
@@ -43,35 +43,52 @@ pub enum Line {
     Unreadable(Fault),
 }
 
-fn small_field(word: &[u8], field: Field) -> Result<u8, Field>
-    ensures { λ r. ⌜ r ≡ small-of field (now (word .entry)) ⌝ }
+fn small(word: &[u8]) -> Option<u8>
+    ensures { λ r. ⌜ r ≡ small-of (now (word .entry)) ⌝ }
 {
     match number(word, Base::Decimal, u8::MAX as u64) {
-        Some(value) => Ok(value as u8),
-        None => Err(field),
+        Some(value) => Some(value as u8),
+        None => None,
     }
 }
 
-fn address_field(word: &[u8]) -> Result<u32, Field>
+fn address(word: &[u8]) -> Option<u32>
     ensures { λ r. ⌜ r ≡ address-of (now (word .entry)) ⌝ }
 {
     match number(word, Base::Hexadecimal, u32::MAX as u64) {
-        Some(value) => Ok(value as u32),
-        None => Err(Field::Address),
+        Some(value) => Some(value as u32),
+        None => None,
     }
 }
 
 fn read_head(words: &[&[u8]; 6]) -> Result<RequestHead, Field>
     ensures { λ r. ⌜ r ≡ head-of (map now (now (words .entry))) ⌝ }
 {
-    let [opcode, param, size, source, address, mask] = *words;
+    let Some(opcode) = small(words[0]) else {
+        return Err(Field::Opcode);
+    };
+    let Some(param) = small(words[1]) else {
+        return Err(Field::Param);
+    };
+    let Some(size) = small(words[2]) else {
+        return Err(Field::Size);
+    };
+    let Some(source) = small(words[3]) else {
+        return Err(Field::Source);
+    };
+    let Some(address) = address(words[4]) else {
+        return Err(Field::Address);
+    };
+    let Some(mask) = number(words[5], Base::Hexadecimal, u64::MAX) else {
+        return Err(Field::Mask);
+    };
     Ok(RequestHead {
-        opcode: small_field(opcode, Field::Opcode)?,
-        param: small_field(param, Field::Param)?,
-        size: small_field(size, Field::Size)?,
-        source: small_field(source, Field::Source)?,
-        address: address_field(address)?,
-        mask: number(mask, Base::Hexadecimal, u64::MAX).ok_or(Field::Mask)?,
+        opcode,
+        param,
+        size,
+        source,
+        address,
+        mask,
     })
 }
 
@@ -90,17 +107,23 @@ fn read_request(heap: Global, words: &[&[u8]; 6], data: &[u8]) -> Result<Line, A
     )
 }
 
+fn read_words(heap: Global, words: &[&[u8]]) -> Result<Line, AllocError>
+    ensures { λ r. ⌜ made r (λ line. view line ≡ reading (map now (now (words .entry)))) ⌝ }
+{
+    if words.is_empty() {
+        return Ok(Line::Nothing);
+    }
+    match words.split_first_chunk() {
+        Some((head, [])) => read_request(heap, head, &[]),
+        Some((head, [data])) => read_request(heap, head, data),
+        _ => Ok(Line::Unreadable(Fault::WordCount)),
+    }
+}
+
 // What one line of a sheet says.
 pub fn read_line(heap: Global, line: &[u8]) -> Result<Line, AllocError>
     ensures { λ r. ⌜ made r (λ said. view said ≡ line-of (now (line .entry))) ⌝ }
 {
     let words = words(heap, line)?;
-    if words.is_empty() {
-        return Ok(Line::Nothing);
-    }
-    match words.as_slice().split_first_chunk() {
-        Some((head, [])) => read_request(heap, head, &[]),
-        Some((head, [data])) => read_request(heap, head, data),
-        _ => Ok(Line::Unreadable(Fault::WordCount)),
-    }
+    read_words(heap, words.as_slice())
 }
