@@ -1,6 +1,9 @@
 ghost use mathlib.Core.Path.{_≡_};
-ghost use mathlib.Core.List.{map};
+ghost use mathlib.Core.List.{List, map};
+ghost use Prim.Native.Nat.{ℕ};
 ghost use Rattle.std.specs.Vec.{made};
+ghost use Rattle.std.specs.shelf.Lists.{All};
+ghost use Rattle.sheet.specs.Words.{Typed, spaced};
 ghost use Rattle.sheet.specs.Line.{small-of, address-of, head-of, request-of, told, reading, view, line-of};
 use crate::numeral::Base;
 use crate::numeral::byte_pairs;
@@ -122,7 +125,8 @@ fn read_words(heap: Global, words: &[&[u8]]) -> Result<Line, AllocError>
 
 // What one line of a sheet says.
 pub fn read_line(heap: Global, line: &[u8]) -> Result<Line, AllocError>
-    ensures { λ r. ⌜ made r (λ said. view said ≡ line-of (now (line .entry))) ⌝ }
+    ensures said { λ r. ⌜ made r (λ said. view said ≡ line-of (now (line .entry))) ⌝ }
+    ensures typed { λ _. ⌜ ((ws : List (List ℕ)) → All Typed ws → line-of (spaced ws) ≡ reading ws) ⌝ }
 {
     let words = words(heap, line)?;
     read_words(heap, words.as_slice())
