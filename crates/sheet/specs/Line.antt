@@ -73,6 +73,7 @@ pub data Reading : Type 0 where
   request : Request → Reading
   unreadable : Fault → Reading
 
+-- a request, or the field at fault, as what its line says
 abbrev pub told : Result Request Field → Reading
 told (Ok q) = request q
 told (Err f) = unreadable (fault.Field f)

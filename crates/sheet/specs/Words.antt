@@ -38,6 +38,7 @@ abbrev pub pieces : List ℕ → List (List ℕ)
 pieces [] = [] ∷ []
 pieces (b ∷ bs) = cond (blank b) ([] ∷ pieces bs) (joined-on b (pieces bs))
 
+-- a piece that has a byte
 abbrev pub some : List ℕ → Bool
 some [] = false
 some (b ∷ bs) = true

@@ -46,6 +46,7 @@ pub enum Line {
     Unreadable(Fault),
 }
 
+// A number that fits a byte.
 fn small(word: &[u8]) -> Option<u8>
     ensures { λ r. ⌜ r ≡ small-of (now (word .entry)) ⌝ }
 {
@@ -64,6 +65,7 @@ fn address(word: &[u8]) -> Option<u32>
     }
 }
 
+// The first word at fault is the one that is told.
 fn read_head(words: &[&[u8]; 6]) -> Result<RequestHead, Field>
     ensures { λ r. ⌜ r ≡ head-of (map now (now (words .entry))) ⌝ }
 {
@@ -123,7 +125,7 @@ fn read_words(heap: Global, words: &[&[u8]]) -> Result<Line, AllocError>
     }
 }
 
-// What one line of a sheet says.
+// What one line of a sheet says. Words that have no blank and no `#` are read as they were typed.
 pub fn read_line(heap: Global, line: &[u8]) -> Result<Line, AllocError>
     ensures said { λ r. ⌜ made r (λ said. view said ≡ line-of (now (line .entry))) ⌝ }
     ensures typed { λ _. ⌜ ((ws : List (List ℕ)) → All Typed ws → line-of (spaced ws) ≡ reading ws) ⌝ }
