@@ -9,7 +9,7 @@ use report::Row;
 use report::RowDisplay;
 use report::Tally;
 use report::TallyDisplay;
-use sheet::line::FaultDisplay;
+use sheet::fault::FaultDisplay;
 use sheet::line::Line;
 use sheet::line::read_line;
 use std::error::AnyError;

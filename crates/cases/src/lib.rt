@@ -63,3 +63,6 @@ fn set(base: u32, mask: u32) -> AddressSet
         Err(_) => unreachable(),
     }
 }
+
+#[cfg(test)]
+mod tests;

@@ -1,29 +1,26 @@
--- The head of a request, field by field. Assumes nothing.
+-- The head of a request, field by field, and the words of a line. Assumes nothing.
 use mathlib.Core.Path.{_≡_, refl, sym, ap, _∙_}
 use mathlib.Core.List.{List, [], _∷_, map}
-use Prim.Native.Nat.{ℕ, zero, suc, _<_}
+use Prim.Native.Nat.{ℕ, zero, suc}
 use native.Mathlib.Omega.{arith}
 use lib.ListN.{length, getD, take, length-map}
-use lib.Dec.{eqb}
 use borrow.Author.Tests.{ne-eqb}
 use denote.Ref.{RefT, now}
-use Rattle.std.specs.Options.{okOr}
-use Rattle.std.specs.Results.{ErrBy}
+use Rattle.std.specs.Vec.{made}
 use Rattle.std.specs.declared.option.Option.{Option}
 use Rattle.std.specs.declared.option.Option.the-variants.{None, Some}
 use Rattle.std.specs.declared.result.Result.{Result}
 use Rattle.std.specs.declared.result.Result.the-variants.{Ok, Err}
-use Rattle.std.specs.Vec.{made}
-use Rattle.std.proofs.shelf.Results.{err-from-errBy, made-weaker}
-use Rattle.message.specs.Request.{Request}
+use Rattle.std.proofs.shelf.Results.{made-weaker}
 use Rattle.message.specs.declared.request.RequestHead.{RequestHead}
-use Rattle.sheet.specs.declared.line.Fault.the-variants as fault
-use Rattle.sheet.specs.declared.line.Field.{Field}
-use Rattle.sheet.specs.declared.line.Field.the-variants as field
+use Rattle.sheet.specs.declared.fault.Fault.the-variants as fault
+use Rattle.sheet.specs.declared.fault.Field.{Field}
+use Rattle.sheet.specs.declared.fault.Field.the-variants as field
 use Rattle.sheet.specs.declared.line.Line.{Line}
 use Rattle.sheet.specs.Numeral.{bytes-of}
-use Rattle.sheet.specs.Line.{then-read, small-of, address-of, mask-of, word, head-by, head-of, request-of, told, Reading, reading, nothing, unreadable, view}
+use Rattle.sheet.specs.Line.{small-of, address-of, mask-of, word, head-by, head-of, request-by, request-of, told, Reading, reading, nothing, unreadable, view}
 
+-- what a slice has past its end
 abbrev pub absent : RefT (List ℕ)
 absent = record { ptr = (0, 0); name = 0; now = [] }
 
@@ -33,62 +30,54 @@ word-now (w ∷ words) zero = refl
 word-now (w ∷ words) (suc k) = word-now words k
 
 -- what a call read of a word, as what the word says
-pub read-at : (of : List ℕ → Result ℕ Field) (words : List (RefT (List ℕ))) (k : ℕ) {r s : Result ℕ Field} → r ≡ of (now (getD words k absent)) → r ≡ s → s ≡ of (word (map now words) k)
-read-at of words k e was = sym was ∙ e ∙ ap of (word-now words k)
-
--- what a `?` returns
-pub failed : {T : Type 0} {f : Field} (r : Result T Field) → ErrBy r (λ y. y ≡ f) → r ≡ Err f
-failed r h = let p = err-from-errBy r h in p .1 ∙ ap Err (p .2)
+pub read-at : (of : List ℕ → Option ℕ) (words : List (RefT (List ℕ))) (k : ℕ) {s : Option ℕ} → s ≡ of (now (getD words k absent)) → s ≡ of (word (map now words) k)
+read-at of words k e = e ∙ ap of (word-now words k)
 
 module _ (ws : List (List ℕ)) where
-  pub stops-at-opcode : {f : Field} → Err f ≡ small-of field.Opcode (word ws 0) → Err f ≡ head-of ws
+  pub stops-at-opcode : None ≡ small-of (word ws 0) → Err field.Opcode ≡ head-of ws
   unfolding head-of
-  stops-at-opcode e0 = λ i. head-by (e0 i) (small-of field.Param (word ws 1)) (small-of field.Size (word ws 2)) (small-of field.Source (word ws 3)) (address-of (word ws 4)) (mask-of (word ws 5))
+  stops-at-opcode e0 = λ i. head-by (e0 i) (small-of (word ws 1)) (small-of (word ws 2)) (small-of (word ws 3)) (address-of (word ws 4)) (mask-of (word ws 5))
 
-  pub stops-at-param : {o : ℕ} {f : Field} → Ok o ≡ small-of field.Opcode (word ws 0) → Err f ≡ small-of field.Param (word ws 1) → Err f ≡ head-of ws
+  pub stops-at-param : {o : ℕ} → Some o ≡ small-of (word ws 0) → None ≡ small-of (word ws 1) → Err field.Param ≡ head-of ws
   unfolding head-of
-  stops-at-param e0 e1 = λ i. head-by (e0 i) (e1 i) (small-of field.Size (word ws 2)) (small-of field.Source (word ws 3)) (address-of (word ws 4)) (mask-of (word ws 5))
+  stops-at-param e0 e1 = λ i. head-by (e0 i) (e1 i) (small-of (word ws 2)) (small-of (word ws 3)) (address-of (word ws 4)) (mask-of (word ws 5))
 
-  pub stops-at-size : {o p : ℕ} {f : Field} → Ok o ≡ small-of field.Opcode (word ws 0) → Ok p ≡ small-of field.Param (word ws 1) → Err f ≡ small-of field.Size (word ws 2) → Err f ≡ head-of ws
+  pub stops-at-size : {o p : ℕ} → Some o ≡ small-of (word ws 0) → Some p ≡ small-of (word ws 1) → None ≡ small-of (word ws 2) → Err field.Size ≡ head-of ws
   unfolding head-of
-  stops-at-size e0 e1 e2 = λ i. head-by (e0 i) (e1 i) (e2 i) (small-of field.Source (word ws 3)) (address-of (word ws 4)) (mask-of (word ws 5))
+  stops-at-size e0 e1 e2 = λ i. head-by (e0 i) (e1 i) (e2 i) (small-of (word ws 3)) (address-of (word ws 4)) (mask-of (word ws 5))
 
-  pub stops-at-source : {o p z : ℕ} {f : Field} → Ok o ≡ small-of field.Opcode (word ws 0) → Ok p ≡ small-of field.Param (word ws 1) → Ok z ≡ small-of field.Size (word ws 2) → Err f ≡ small-of field.Source (word ws 3) → Err f ≡ head-of ws
+  pub stops-at-source : {o p z : ℕ} → Some o ≡ small-of (word ws 0) → Some p ≡ small-of (word ws 1) → Some z ≡ small-of (word ws 2) → None ≡ small-of (word ws 3) → Err field.Source ≡ head-of ws
   unfolding head-of
   stops-at-source e0 e1 e2 e3 = λ i. head-by (e0 i) (e1 i) (e2 i) (e3 i) (address-of (word ws 4)) (mask-of (word ws 5))
 
-  pub stops-at-address : {o p z s : ℕ} {f : Field} → Ok o ≡ small-of field.Opcode (word ws 0) → Ok p ≡ small-of field.Param (word ws 1) → Ok z ≡ small-of field.Size (word ws 2) → Ok s ≡ small-of field.Source (word ws 3) → Err f ≡ address-of (word ws 4) → Err f ≡ head-of ws
+  pub stops-at-address : {o p z s : ℕ} → Some o ≡ small-of (word ws 0) → Some p ≡ small-of (word ws 1) → Some z ≡ small-of (word ws 2) → Some s ≡ small-of (word ws 3) → None ≡ address-of (word ws 4) → Err field.Address ≡ head-of ws
   unfolding head-of
   stops-at-address e0 e1 e2 e3 e4 = λ i. head-by (e0 i) (e1 i) (e2 i) (e3 i) (e4 i) (mask-of (word ws 5))
 
-  pub stops-at-mask : {o p z s a : ℕ} {f : Field} → Ok o ≡ small-of field.Opcode (word ws 0) → Ok p ≡ small-of field.Param (word ws 1) → Ok z ≡ small-of field.Size (word ws 2) → Ok s ≡ small-of field.Source (word ws 3) → Ok a ≡ address-of (word ws 4) → Err f ≡ mask-of (word ws 5) → Err f ≡ head-of ws
+  pub stops-at-mask : {o p z s a : ℕ} → Some o ≡ small-of (word ws 0) → Some p ≡ small-of (word ws 1) → Some z ≡ small-of (word ws 2) → Some s ≡ small-of (word ws 3) → Some a ≡ address-of (word ws 4) → None ≡ mask-of (word ws 5) → Err field.Mask ≡ head-of ws
   unfolding head-of
   stops-at-mask e0 e1 e2 e3 e4 e5 = λ i. head-by (e0 i) (e1 i) (e2 i) (e3 i) (e4 i) (e5 i)
 
-  pub whole-head : {o p z s a m : ℕ} → Ok o ≡ small-of field.Opcode (word ws 0) → Ok p ≡ small-of field.Param (word ws 1) → Ok z ≡ small-of field.Size (word ws 2) → Ok s ≡ small-of field.Source (word ws 3) → Ok a ≡ address-of (word ws 4) → Ok m ≡ mask-of (word ws 5) → Ok (record { opcode = o; param = p; size = z; source = s; address = a; mask = m }) ≡ head-of ws
+  pub whole-head : {o p z s a m : ℕ} → Some o ≡ small-of (word ws 0) → Some p ≡ small-of (word ws 1) → Some z ≡ small-of (word ws 2) → Some s ≡ small-of (word ws 3) → Some a ≡ address-of (word ws 4) → Some m ≡ mask-of (word ws 5) → Ok (record { opcode = o; param = p; size = z; source = s; address = a; mask = m }) ≡ head-of ws
   unfolding head-of
   whole-head e0 e1 e2 e3 e4 e5 = λ i. head-by (e0 i) (e1 i) (e2 i) (e3 i) (e4 i) (e5 i)
 
-  module _ (last : List ℕ) where
-    abbrev request-by : Result RequestHead Field → Option (List ℕ) → Result Request Field
-    request-by h o = then-read h (λ x. then-read (okOr o field.Data) (λ bs. Ok (record { head = x; bytes = bs })))
+  pub stops-at-head : {f : Field} (last : List ℕ) → Err f ≡ head-of ws → Err f ≡ request-of ws last
+  unfolding request-of
+  stops-at-head last e = λ i. request-by (e i) (bytes-of last)
 
-    pub stops-at-head : {f : Field} → Err f ≡ head-of ws → Err f ≡ request-of ws last
-    unfolding request-of
-    stops-at-head e = λ i. request-by (e i) (bytes-of last)
+  pub stops-at-data : {h : RequestHead} (last : List ℕ) → Ok h ≡ head-of ws → None ≡ bytes-of last → Err field.Data ≡ request-of ws last
+  unfolding request-of
+  stops-at-data last e d = λ i. request-by (e i) (d i)
 
-    pub stops-at-data : {h : RequestHead} → Ok h ≡ head-of ws → None ≡ bytes-of last → Err field.Data ≡ request-of ws last
-    unfolding request-of
-    stops-at-data e d = λ i. request-by (e i) (d i)
+  pub whole-request : {h : RequestHead} {bs : List ℕ} (last : List ℕ) → Ok h ≡ head-of ws → Some bs ≡ bytes-of last → Ok (record { head = h; bytes = bs }) ≡ request-of ws last
+  unfolding request-of
+  whole-request last e d = λ i. request-by (e i) (d i)
 
-    pub whole-request : {h : RequestHead} {bs : List ℕ} → Ok h ≡ head-of ws → Some bs ≡ bytes-of last → Ok (record { head = h; bytes = bs }) ≡ request-of ws last
-    unfolding request-of
-    whole-request e d = λ i. request-by (e i) (d i)
-
-pub no-words : (ws : List (List ℕ)) → length ws ≡ 0 → nothing ≡ reading ws
+pub no-words : (xs : List (RefT (List ℕ))) → length xs ≡ 0 → nothing ≡ reading (map now xs)
 unfolding reading
 no-words [] h = refl
-no-words (w ∷ ws) h = absurd (omega arith)
+no-words (x ∷ xs) h = absurd (omega arith)
 
 pub miscounted : (xs : List (RefT (List ℕ))) → (length xs ≡ 0 → ⊥) → (length xs ≡ 6 → ⊥) → (length xs ≡ 7 → ⊥) → unreadable fault.WordCount ≡ reading (map now xs)
 unfolding reading

@@ -1,3 +1,4 @@
 pub mod Positions
 pub mod Cuts
 pub mod Fields
+pub mod Spaced

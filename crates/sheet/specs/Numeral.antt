@@ -15,10 +15,12 @@ abbrev pub and-then : {A B : Type 0} → Option A → (A → Option B) → Optio
 and-then None next = None
 and-then (Some a) next = next a
 
+-- how many digits a base has
 abbrev pub radix : Base → ℕ
 radix Decimal = 10
 radix Hexadecimal = 16
 
+-- whether a byte is one of a row of bytes, its ends included
 abbrev pub among : ℕ → ℕ → ℕ → Bool
 among low high byte = leb low byte && leb byte high
 
@@ -42,6 +44,7 @@ abbrev pub value : Base → List ℕ → ℕ
 value base [] = 0
 value base (d ∷ ds) = d * radix base ^ length ds + value base ds
 
+-- a number that keeps within the limit
 abbrev pub at-most : ℕ → ℕ → Option ℕ
 at-most limit n = cond (leb n limit) (Some n) None
 

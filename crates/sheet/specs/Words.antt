@@ -1,9 +1,11 @@
 -- The words of a line.
+use mathlib.Core.Path.{_≡_}
 use mathlib.Core.Bool.{Bool, true, false, cond, not, _||_}
-use mathlib.Core.List.{List, [], _∷_}
-use Prim.Native.Nat.{ℕ}
+use mathlib.Core.List.{List, [], _∷_, _++_}
+use Prim.Native.Nat.{ℕ, _<_}
 use lib.Dec.{eqb}
-use Rattle.std.specs.shelf.Lists.{kept-by}
+use lib.ListN.{length}
+use Rattle.std.specs.shelf.Lists.{All, kept-by}
 use Rattle.sheet.specs.declared.words.Stretch.{Stretch}
 use Rattle.sheet.specs.declared.words.Stretch.the-variants.{Blanks, Word, BeforeComment}
 
@@ -36,6 +38,7 @@ abbrev pub pieces : List ℕ → List (List ℕ)
 pieces [] = [] ∷ []
 pieces (b ∷ bs) = cond (blank b) ([] ∷ pieces bs) (joined-on b (pieces bs))
 
+-- a piece that has a byte
 abbrev pub some : List ℕ → Bool
 some [] = false
 some (b ∷ bs) = true
@@ -47,3 +50,16 @@ runs text = kept-by some (pieces text)
 -- the words of a line: the runs before its comment
 unfoldable pub words-of : List ℕ → List (List ℕ)
 words-of line = runs (said line)
+
+-- a byte of a word: no blank, and no beginning of a comment
+abbrev pub Plain : ℕ → Type 0
+Plain byte = (blank byte ≡ false) × (comment byte ≡ false)
+
+-- a word that can be typed
+abbrev pub Typed : List ℕ → Type 0
+Typed word = (0 < length word) × All Plain word
+
+-- words typed with a space after each
+abbrev pub spaced : List (List ℕ) → List ℕ
+spaced [] = []
+spaced (word ∷ words) = word ++ (32 ∷ spaced words)

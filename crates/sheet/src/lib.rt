@@ -1,4 +1,5 @@
 // Request sheets: text that field engineers type, one request to a line.
+pub mod fault;
 pub mod line;
 pub mod numeral;
 pub mod words;

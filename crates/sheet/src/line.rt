@@ -1,7 +1,12 @@
 ghost use mathlib.Core.Path.{_≡_};
-ghost use mathlib.Core.List.{map};
+ghost use mathlib.Core.List.{List, map};
+ghost use Prim.Native.Nat.{ℕ};
 ghost use Rattle.std.specs.Vec.{made};
-ghost use Rattle.sheet.specs.Line.{small-of, address-of, head-of, request-of, told, view, line-of};
+ghost use Rattle.std.specs.shelf.Lists.{All};
+ghost use Rattle.sheet.specs.Words.{Typed, spaced};
+ghost use Rattle.sheet.specs.Line.{small-of, address-of, head-of, request-of, told, reading, view, line-of};
+use crate::fault::Fault;
+use crate::fault::Field;
 use crate::numeral::Base;
 use crate::numeral::byte_pairs;
 use crate::numeral::number;
@@ -9,26 +14,6 @@ use crate::words::words;
 use message::request::RequestHead;
 use std::alloc::AllocError;
 use std::alloc::Global;
-use std::fmt;
-
-// The fields of a request, in the order in which a line has them.
-#[derive(Clone, Copy, PartialEq, Eq, Debug)]
-pub enum Field {
-    Opcode,
-    Param,
-    Size,
-    Source,
-    Address,
-    Mask,
-    Data,
-}
-
-// Why a line cannot be read.
-#[derive(Clone, Copy, PartialEq, Eq, Debug)]
-pub enum Fault {
-    WordCount,
-    Field(Field),
-}
 
 // A request as a line has it, legal or not.
 #[derive(Drop)]
@@ -44,54 +29,54 @@ pub enum Line {
     Unreadable(Fault),
 }
 
-pub impl fmt::Display for Fault as FaultDisplay {
-    fn fmt<W: fmt::Write>(&self, f: &mut fmt::Formatter<W>) -> fmt::Result {
-        f.pad(meaning(*self))
-    }
-}
-
-fn meaning(fault: Fault) -> &'static str {
-    match fault {
-        Fault::WordCount => "not the six words of a request, or seven with its data",
-        Fault::Field(Field::Opcode) => "OPCODE is no decimal number up to 255",
-        Fault::Field(Field::Param) => "PARAM is no decimal number up to 255",
-        Fault::Field(Field::Size) => "SIZE is no decimal number up to 255",
-        Fault::Field(Field::Source) => "SOURCE is no decimal number up to 255",
-        Fault::Field(Field::Address) => "ADDRESS is no hexadecimal number of 32 bits",
-        Fault::Field(Field::Mask) => "MASK is no hexadecimal number of 64 bits",
-        Fault::Field(Field::Data) => "DATA is no row of hexadecimal byte pairs",
-    }
-}
-
-fn small_field(word: &[u8], field: Field) -> Result<u8, Field>
-    ensures { λ r. ⌜ r ≡ small-of field (now (word .entry)) ⌝ }
+// A number that fits a byte.
+fn small(word: &[u8]) -> Option<u8>
+    ensures { λ r. ⌜ r ≡ small-of (now (word .entry)) ⌝ }
 {
     match number(word, Base::Decimal, u8::MAX as u64) {
-        Some(value) => Ok(value as u8),
-        None => Err(field),
+        Some(value) => Some(value as u8),
+        None => None,
     }
 }
 
-fn address_field(word: &[u8]) -> Result<u32, Field>
+fn address(word: &[u8]) -> Option<u32>
     ensures { λ r. ⌜ r ≡ address-of (now (word .entry)) ⌝ }
 {
     match number(word, Base::Hexadecimal, u32::MAX as u64) {
-        Some(value) => Ok(value as u32),
-        None => Err(Field::Address),
+        Some(value) => Some(value as u32),
+        None => None,
     }
 }
 
+// The first word at fault is the one that is told.
 fn read_head(words: &[&[u8]; 6]) -> Result<RequestHead, Field>
     ensures { λ r. ⌜ r ≡ head-of (map now (now (words .entry))) ⌝ }
 {
-    let [opcode, param, size, source, address, mask] = *words;
+    let Some(opcode) = small(words[0]) else {
+        return Err(Field::Opcode);
+    };
+    let Some(param) = small(words[1]) else {
+        return Err(Field::Param);
+    };
+    let Some(size) = small(words[2]) else {
+        return Err(Field::Size);
+    };
+    let Some(source) = small(words[3]) else {
+        return Err(Field::Source);
+    };
+    let Some(address) = address(words[4]) else {
+        return Err(Field::Address);
+    };
+    let Some(mask) = number(words[5], Base::Hexadecimal, u64::MAX) else {
+        return Err(Field::Mask);
+    };
     Ok(RequestHead {
-        opcode: small_field(opcode, Field::Opcode)?,
-        param: small_field(param, Field::Param)?,
-        size: small_field(size, Field::Size)?,
-        source: small_field(source, Field::Source)?,
-        address: address_field(address)?,
-        mask: number(mask, Base::Hexadecimal, u64::MAX).ok_or(Field::Mask)?,
+        opcode,
+        param,
+        size,
+        source,
+        address,
+        mask,
     })
 }
 
@@ -110,17 +95,24 @@ fn read_request(heap: Global, words: &[&[u8]; 6], data: &[u8]) -> Result<Line, A
     )
 }
 
-// What one line of a sheet says.
-pub fn read_line(heap: Global, line: &[u8]) -> Result<Line, AllocError>
-    ensures { λ r. ⌜ made r (λ said. view said ≡ line-of (now (line .entry))) ⌝ }
+fn read_words(heap: Global, words: &[&[u8]]) -> Result<Line, AllocError>
+    ensures { λ r. ⌜ made r (λ line. view line ≡ reading (map now (now (words .entry)))) ⌝ }
 {
-    let words = words(heap, line)?;
     if words.is_empty() {
         return Ok(Line::Nothing);
     }
-    match words.as_slice().split_first_chunk() {
+    match words.split_first_chunk() {
         Some((head, [])) => read_request(heap, head, &[]),
         Some((head, [data])) => read_request(heap, head, data),
         _ => Ok(Line::Unreadable(Fault::WordCount)),
     }
+}
+
+// What one line of a sheet says. Words that have no blank and no `#` are read as they were typed.
+pub fn read_line(heap: Global, line: &[u8]) -> Result<Line, AllocError>
+    ensures said { λ r. ⌜ made r (λ said. view said ≡ line-of (now (line .entry))) ⌝ }
+    ensures typed { λ _. ⌜ ((ws : List (List ℕ)) → All Typed ws → line-of (spaced ws) ≡ reading ws) ⌝ }
+{
+    let words = words(heap, line)?;
+    read_words(heap, words.as_slice())
 }

@@ -6,7 +6,7 @@ ghost use Rattle.sheet.specs.Numeral.{radix, digit-of, appended-of, number-of,
 use std::alloc::AllocError;
 use std::alloc::Global;
 
-#[derive(Clone, Copy, PartialEq, Eq, Debug)]
+#[derive(Clone, Copy)]
 pub enum Base {
     Decimal,
     Hexadecimal,
@@ -63,9 +63,13 @@ pub fn number(word: &[u8], base: Base, limit: u64) -> Option<u64>
 fn byte(high: u8, low: u8) -> Option<u8>
     ensures { λ r. ⌜ r ≡ byte-of high low ⌝ }
 {
-    let high = digit(high, Base::Hexadecimal)?;
-    let low = digit(low, Base::Hexadecimal)?;
-    Some(high * 16 + low)
+    match (
+        digit(high, Base::Hexadecimal),
+        digit(low, Base::Hexadecimal),
+    ) {
+        (Some(high), Some(low)) => Some(high * 16 + low),
+        _ => None,
+    }
 }
 
 // The bytes that `word` writes by pairs of hexadecimal digits, the high half first.

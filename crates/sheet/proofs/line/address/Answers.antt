@@ -1,7 +1,7 @@
-use mathlib.Core.Path.{sym, _∙_}
+use mathlib.Core.Path.{sym}
 use native.Mathlib.Omega.{arith}
 use Rattle.sheet.proofs.Positions.{number-bound}
-use Rattle.sheet.proofs.line.small_field.Needs as need
+use Rattle.sheet.proofs.line.address.Needs as need
 
 pub cast-result : need.cast-result
 cast-result c = omega (arith, number-bound _ _ _ _ (sym (c .in-Some .ensures tt)))
