@@ -1,5 +1,6 @@
 // Vets a request sheet: reads it from standard input and says of each request whether it is legal and where it lies.
 mod address_map;
+mod finding;
 mod report;
 
 use address_map::AddressMap;
@@ -9,9 +10,6 @@ use report::Row;
 use report::RowDisplay;
 use report::Tally;
 use report::TallyDisplay;
-use sheet::fault::FaultDisplay;
-use sheet::line::Line;
-use sheet::line::read_line;
 use std::error::AnyError;
 use std::io::BufRead;
 use std::io::BufReader;
@@ -26,50 +24,18 @@ fn vet_sheet(rt: &LibcRuntime) -> Result<(), AnyError> {
     println!(rt, "{}", Row::HEADING)?;
     let mut tally = Tally::new();
     let mut input = BufReader::new(rt.stdin());
-    let mut line = Vec::new(rt.alloc());
-    for number in 1..=u64::MAX {
-        line.clear();
-        if input.read_until(b'\n', &mut line)? == 0 {
+    let mut text = Vec::new(rt.alloc());
+    for line in 1..=u64::MAX {
+        text.clear();
+        if input.read_until(b'\n', &mut text)? == 0 {
             break;
         }
-        vet_line(
-            rt,
-            map,
-            number,
-            line.strip_suffix(b"\n").unwrap_or(&line),
-            &mut tally,
-        )?;
-    }
-    println!(rt, "{tally}")?;
-    Ok(())
-}
-
-fn vet_line(
-    rt: &LibcRuntime,
-    map: AddressMap,
-    number: u64,
-    line: &[u8],
-    tally: &mut Tally,
-) -> Result<(), AnyError> {
-    match read_line(rt.alloc(), line)? {
-        Line::Nothing => {}
-        Line::Request(entry) => {
-            let verdict = map.vet(entry.head, &entry.data);
-            tally.judge(verdict);
-            println!(
-                rt,
-                "{}",
-                Row {
-                    line: number,
-                    head: entry.head,
-                    verdict
-                }
-            )?;
-        }
-        Line::Unreadable(fault) => {
-            tally.pass_over();
-            println!(rt, "{number:>4}  cannot be read: {fault}")?;
+        let said = text.strip_suffix(b"\n").unwrap_or(&text);
+        if let Some(finding) = map.vet_line(rt.alloc(), said)? {
+            tally.count(finding);
+            println!(rt, "{}", Row { line, finding })?;
         }
     }
+    println!(rt, "\n{tally}")?;
     Ok(())
 }

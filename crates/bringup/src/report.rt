@@ -1,10 +1,12 @@
 ghost use mathlib.Core.Path.{_≡_};
-ghost use Rattle.bringup.specs.Report.{empty, judged, passed-over};
-use crate::address_map::Verdict;
-use crate::address_map::VerdictDisplay;
+ghost use Rattle.bringup.specs.Report.{covered, empty, counted};
+use crate::finding::Finding;
+use crate::finding::Verdict;
+use crate::finding::VerdictDisplay;
 use message::operation::Operation;
 use message::operation::OperationDisplay;
 use message::request::RequestHead;
+use sheet::fault::FaultDisplay;
 use std::fmt;
 
 // How many lines came to what.
@@ -26,19 +28,15 @@ impl Tally {
         }
     }
 
-    pub fn judge(&mut self, verdict: Verdict)
-        ensures { λ _. ⌜ now (self .exit) ≡ judged verdict (now (self .entry)) ⌝ }
+    pub fn count(&mut self, finding: Finding)
+        ensures { λ _. ⌜ now (self .exit) ≡ counted finding (now (self .entry)) ⌝ }
     {
-        match verdict {
-            Verdict::Legal(_, _) => self.legal = self.legal.saturating_add(1),
-            Verdict::Refused(_) => self.refused = self.refused.saturating_add(1),
+        match finding {
+            Finding::Request(_, Verdict::Legal(_, _)) => self.legal = self.legal.saturating_add(1),
+            Finding::Request(_, Verdict::Refused(_)) => self.refused = self.refused
+                .saturating_add(1),
+            Finding::Unreadable(_) => self.unreadable = self.unreadable.saturating_add(1),
         }
-    }
-
-    pub fn pass_over(&mut self)
-        ensures { λ _. ⌜ now (self .exit) ≡ passed-over (now (self .entry)) ⌝ }
-    {
-        self.unreadable = self.unreadable.saturating_add(1);
     }
 }
 
@@ -50,20 +48,18 @@ pub impl fmt::Display for Tally as TallyDisplay {
             unreadable,
         } = *self;
         let read = legal.saturating_add(refused);
-        writeln!(f)?;
-        writeln!(f, "requests read     {read:>6}")?;
-        writeln!(f, "  legal           {legal:>6}")?;
-        writeln!(f, "  refused         {refused:>6}")?;
-        write!(f, "lines unreadable  {unreadable:>6}")
+        write!(
+            f,
+            "requests read     {read:>6}\n  legal           {legal:>6}\n  refused         {refused:>6}\nlines unreadable  {unreadable:>6}",
+        )
     }
 }
 
-// What is printed of one request.
+// What is printed of one line.
 #[derive(Clone, Copy)]
 pub struct Row {
     pub line: u64,
-    pub head: RequestHead,
-    pub verdict: Verdict,
+    pub finding: Finding,
 }
 
 impl Row {
@@ -72,23 +68,27 @@ impl Row {
 
 pub impl fmt::Display for Row as RowDisplay {
     fn fmt<W: fmt::Write>(&self, f: &mut fmt::Formatter<W>) -> fmt::Result {
-        let Row {
-            line,
-            head,
-            verdict,
-        } = *self;
-        let operation = OrDash(Operation::read(head.opcode, head.param).ok());
-        let address = head.address;
-        let bytes = OrDash(if head.size <= 6 {
-            Some(1u8 << head.size)
-        } else {
-            None
-        });
-        write!(
-            f,
-            "{line:>4}  {operation:<20}  {address:08x}  {bytes:>5}  {verdict}"
-        )
+        let line = self.line;
+        match self.finding {
+            Finding::Unreadable(fault) => write!(f, "{line:>4}  cannot be read: {fault}"),
+            Finding::Request(head, verdict) => {
+                let operation = OrDash(Operation::read(head.opcode, head.param).ok());
+                let address = head.address;
+                let bytes = OrDash(covered(head.size));
+                write!(
+                    f,
+                    "{line:>4}  {operation:<20}  {address:08x}  {bytes:>5}  {verdict}"
+                )
+            }
+        }
     }
+}
+
+// How many bytes a message of this size covers; above 6 there is no message.
+fn covered(size: u8) -> Option<u8>
+    ensures { λ r. ⌜ r ≡ covered size ⌝ }
+{
+    if size <= 6 { Some(1 << size) } else { None }
 }
 
 // A dash where there is nothing to show.
