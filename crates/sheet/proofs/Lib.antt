@@ -2,3 +2,4 @@ pub mod Positions
 pub mod Cuts
 pub mod Fields
 pub mod Spaced
+pub mod Writing

@@ -84,7 +84,7 @@ pairs-more (Some x) (Some y) None = refl
 pairs-more (Some x) (Some y) (Some ds) = refl
 
 -- the first pair, and then the others
-bytes-more : (h l : ℕ) (bs : List ℕ) → bytes-of (h ∷ l ∷ bs) ≡ and-then (byte-of h l) (λ b. mapped (λ more. b ∷ more) (bytes-of bs))
+pub bytes-more : (h l : ℕ) (bs : List ℕ) → bytes-of (h ∷ l ∷ bs) ≡ and-then (byte-of h l) (λ b. mapped (λ more. b ∷ more) (bytes-of bs))
 unfolding bytes-of
 bytes-more h l bs = pairs-more (digit-of Hexadecimal h) (digit-of Hexadecimal l) (digits-of Hexadecimal bs)
 

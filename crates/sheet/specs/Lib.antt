@@ -1,3 +1,4 @@
 pub mod Line
 pub mod Numeral
 pub mod Words
+pub mod Written

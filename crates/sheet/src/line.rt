@@ -3,8 +3,10 @@ ghost use mathlib.Core.List.{List, map};
 ghost use Prim.Native.Nat.{ℕ};
 ghost use Rattle.std.specs.Vec.{made};
 ghost use Rattle.std.specs.shelf.Lists.{All};
+ghost use Rattle.message.specs.Request.{Request};
 ghost use Rattle.sheet.specs.Words.{Typed, spaced};
-ghost use Rattle.sheet.specs.Line.{small-of, address-of, head-of, request-of, told, reading, view, line-of};
+ghost use Rattle.sheet.specs.Line.{small-of, address-of, head-of, request-of, told, request, reading, view, line-of};
+ghost use Rattle.sheet.specs.Written.{written, Fits};
 use crate::fault::Fault;
 use crate::fault::Field;
 use crate::numeral::Base;
@@ -111,7 +113,8 @@ fn read_words(heap: Global, words: &[&[u8]]) -> Result<Line, AllocError>
 // What one line of a sheet says. Words that have no blank and no `#` are read as they were typed.
 pub fn read_line(heap: Global, line: &[u8]) -> Result<Line, AllocError>
     ensures said { λ r. ⌜ made r (λ said. view said ≡ line-of (now (line .entry))) ⌝ }
-    ensures typed { λ _. ⌜ ((ws : List (List ℕ)) → All Typed ws → line-of (spaced ws) ≡ reading ws) ⌝ }
+    ensures typed { λ r. ⌜ ((ws : List (List ℕ)) → All Typed ws → now (line .entry) ≡ spaced ws → made r (λ said. view said ≡ reading ws)) ⌝ }
+    ensures written { λ r. ⌜ ((q : Request) → Fits q → now (line .entry) ≡ written q → made r (λ said. view said ≡ request q)) ⌝ }
 {
     let words = words(heap, line)?;
     read_words(heap, words.as_slice())

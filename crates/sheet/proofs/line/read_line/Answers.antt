@@ -1,11 +1,21 @@
+use mathlib.Core.Path.{_≡_, ap, _∙_}
 use borrow.Author.Needs.{needs}
-use mathlib.Core.Path.{ap}
-use Rattle.sheet.specs.Line.{reading}
+use Rattle.std.specs.Vec.{made}
+use Rattle.sheet.specs.Line.{reading, line-of, view}
 use Rattle.sheet.proofs.Spaced.{words-spaced}
+use Rattle.sheet.proofs.Writing.{written-read, says}
 use Rattle.sheet.proofs.line.read_line.Needs as need
 
 pub returns-in-Break-words : need.returns-in-Break-words
-returns-in-Break-words c = record { said = search needs; typed = λ ws h. ap reading (words-spaced ws h) }
+returns-in-Break-words c = record { said = search needs; typed = search needs; written = search needs }
 
 pub returns : need.returns
-returns c = record { said = search needs; typed = λ ws h. ap reading (words-spaced ws h) }
+returns c =
+    let line = c .args .line .now in
+    let r = c .read-words .result in
+    let said : made r (λ s. view s ≡ line-of line) = search needs in
+    record {
+      said = said;
+      typed = λ ws h e. says r line (reading ws) said (ap line-of e ∙ ap reading (words-spaced ws h));
+      written = λ q f e. says r line _ said (ap line-of e ∙ written-read q f);
+    }
