@@ -15,6 +15,7 @@ use Rattle.bringup.specs.declared.finding.Verdict.{Verdict}
 use Rattle.bringup.specs.declared.finding.Verdict.the-variants.{Legal, Refused}
 use Rattle.bringup.specs.AddressMap.{region-of}
 
+-- an answer of `check` as a verdict
 abbrev pub judgement : Option Region → Result Operation Refusal → Verdict
 judgement place (Ok o) = Legal o place
 judgement place (Err e) = Refused e

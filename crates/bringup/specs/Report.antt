@@ -17,6 +17,7 @@ covered size = cond (leb size 6) (Some (2 ^ size)) None
 abbrev pub one-more : ℕ → ℕ
 one-more n = min (n + 1) (2 ^ 64 - 1)
 
+-- before the first line
 abbrev pub empty : Tally
 empty = record { legal = 0; refused = 0; unreadable = 0 }
 

@@ -5,7 +5,6 @@ use crate::finding::Verdict;
 use crate::finding::VerdictDisplay;
 use message::operation::Operation;
 use message::operation::OperationDisplay;
-use message::request::RequestHead;
 use sheet::fault::FaultDisplay;
 use std::fmt;
 

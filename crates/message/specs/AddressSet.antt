@@ -7,7 +7,7 @@ use lib.Dec.{eqb}
 use Rattle.message.specs.Bits.{bit}
 use Rattle.message.specs.declared.request.RequestHead.{RequestHead}
 
--- the 32 digits of a number, each turned
+-- NOT, on 32 bits
 abbrev pub inverted : ℕ → ℕ
 inverted n = 2 ^ 32 - 1 - n
 
@@ -15,6 +15,7 @@ inverted n = 2 ^ 32 - 1 - n
 abbrev pub agree-outside : ℕ → ℕ → ℕ → Bool
 agree-outside mask a b = eqb (bitAnd (bitXor a b) (inverted mask)) 0
 
+-- the lowest bits of the mask are set, as many as `count`
 abbrev pub low-bits-set : ℕ → ℕ → Bool
 low-bits-set mask count = eqb (mask % 2 ^ count) (2 ^ count - 1)
 
@@ -22,6 +23,7 @@ low-bits-set mask count = eqb (mask % 2 ^ count) (2 ^ count - 1)
 abbrev pub contains : ℕ → ℕ → ℕ → Bool
 contains base mask address = agree-outside mask address base
 
+-- two sets overlap if their bases differ at most where either mask is set
 abbrev pub overlap : ℕ → ℕ → ℕ → ℕ → Bool
 overlap base₁ mask₁ base₂ mask₂ = agree-outside (bitOr mask₁ mask₂) base₁ base₂
 

@@ -31,7 +31,7 @@ abbrev pub operation-of : ℕ → ℕ → Result Operation Refusal
 operation-of opcode param =
     elim (nth operations opcode) [ None ↦ Err no.Opcode | Some row ↦ okOr (nth row param) no.Param ]
 
--- whether its requests carry data
+-- whether requests for the operation carry data
 abbrev pub has-data : Operation → Bool
 has-data PutFullData = true
 has-data PutPartialData = true

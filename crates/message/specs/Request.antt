@@ -22,6 +22,7 @@ pub record Request : Type 0 where
   pub head : RequestHead
   pub bytes : List ℕ
 
+-- a head with its data beside it, as calls take them
 abbrev pub request : RequestHead → List ℕ → Request
 request head bytes = record { head = head; bytes = bytes }
 
@@ -43,14 +44,15 @@ partial (LogicalData l) = false
 partial Get = false
 partial (Intent p) = false
 
--- size is an exponent: a message covers 2 ^ size bytes, at most 64
+-- size is an exponent: a message covers 2 ^ size bytes, at most 64, and an atomic one 4 or 8
 abbrev pub size-fits : Operation → ℕ → Bool
 size-fits o size = cond (atomic o) (eqb size 2 || eqb size 3) (leb size 6)
 
+-- the address is a multiple of the bytes that the message covers
 abbrev pub aligned : ℕ → ℕ → Bool
 aligned address size = eqb (address % 2 ^ size) 0
 
--- bit i of a mask belongs to byte i of the message
+-- bit i of a mask belongs to byte i of the message: no bit past it, and unless partial every bit of it
 abbrev pub mask-fits : Operation → ℕ → ℕ → Bool
 mask-fits o size mask = cond (partial o) (ltb mask (2 ^ (2 ^ size))) (eqb mask (2 ^ (2 ^ size) - 1))
 

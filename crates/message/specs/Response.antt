@@ -17,6 +17,7 @@ pub record Response : Type 0 where
   pub head : ResponseHead
   pub bytes : List ℕ
 
+-- a head with its data beside it, as calls take them
 abbrev pub response : ResponseHead → List ℕ → Response
 response head bytes = record { head = head; bytes = bytes }
 
@@ -29,6 +30,7 @@ response-to (LogicalData l) = AccessAckData
 response-to Get = AccessAckData
 response-to (Intent p) = HintAck
 
+-- the opcode that a response carries
 abbrev pub response-number : ResponseOpcode → ℕ
 response-number AccessAck = 0
 response-number AccessAckData = 1
