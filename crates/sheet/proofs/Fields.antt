@@ -1,7 +1,7 @@
--- The head of a request, field by field, and the words of a line. Assumes nothing.
+-- The head of a request by its fields, and a line by its words.
 use mathlib.Core.Path.{_≡_, refl, sym, ap, _∙_}
 use mathlib.Core.List.{List, [], _∷_, map}
-use Prim.Native.Nat.{ℕ, zero, suc}
+use Prim.Native.Nat.{ℕ, zero, suc, _≤_}
 use native.Mathlib.Omega.{arith}
 use lib.ListN.{length, getD, take, length-map}
 use borrow.Author.Tests.{ne-eqb}
@@ -29,50 +29,23 @@ word-now [] k = refl
 word-now (w ∷ words) zero = refl
 word-now (w ∷ words) (suc k) = word-now words k
 
--- what a call read of a word, as what the word says
-pub read-at : (of : List ℕ → Option ℕ) (words : List (RefT (List ℕ))) (k : ℕ) {s : Option ℕ} → s ≡ of (now (getD words k absent)) → s ≡ of (word (map now words) k)
-read-at of words k e = e ∙ ap of (word-now words k)
+-- a head by what was read of its six words; a word that was not read stands for itself
+pub head-is : (words : List (RefT (List ℕ))) {o p z s a m : Option ℕ} → o ≡ small-of (now (getD words 0 absent)) → p ≡ small-of (now (getD words 1 absent)) → z ≡ small-of (now (getD words 2 absent)) → s ≡ small-of (now (getD words 3 absent)) → a ≡ address-of (now (getD words 4 absent)) → m ≡ mask-of (now (getD words 5 absent)) → head-by o p z s a m ≡ head-of (map now words)
+unfolding head-of
+head-is words o p z s a m =
+    λ i.
+    head-by
+    ((o ∙ ap small-of (word-now words 0)) i)
+    ((p ∙ ap small-of (word-now words 1)) i)
+    ((z ∙ ap small-of (word-now words 2)) i)
+    ((s ∙ ap small-of (word-now words 3)) i)
+    ((a ∙ ap address-of (word-now words 4)) i)
+    ((m ∙ ap mask-of (word-now words 5)) i)
 
-module _ (ws : List (List ℕ)) where
-  pub stops-at-opcode : None ≡ small-of (word ws 0) → Err field.Opcode ≡ head-of ws
-  unfolding head-of
-  stops-at-opcode e0 = λ i. head-by (e0 i) (small-of (word ws 1)) (small-of (word ws 2)) (small-of (word ws 3)) (address-of (word ws 4)) (mask-of (word ws 5))
-
-  pub stops-at-param : {o : ℕ} → Some o ≡ small-of (word ws 0) → None ≡ small-of (word ws 1) → Err field.Param ≡ head-of ws
-  unfolding head-of
-  stops-at-param e0 e1 = λ i. head-by (e0 i) (e1 i) (small-of (word ws 2)) (small-of (word ws 3)) (address-of (word ws 4)) (mask-of (word ws 5))
-
-  pub stops-at-size : {o p : ℕ} → Some o ≡ small-of (word ws 0) → Some p ≡ small-of (word ws 1) → None ≡ small-of (word ws 2) → Err field.Size ≡ head-of ws
-  unfolding head-of
-  stops-at-size e0 e1 e2 = λ i. head-by (e0 i) (e1 i) (e2 i) (small-of (word ws 3)) (address-of (word ws 4)) (mask-of (word ws 5))
-
-  pub stops-at-source : {o p z : ℕ} → Some o ≡ small-of (word ws 0) → Some p ≡ small-of (word ws 1) → Some z ≡ small-of (word ws 2) → None ≡ small-of (word ws 3) → Err field.Source ≡ head-of ws
-  unfolding head-of
-  stops-at-source e0 e1 e2 e3 = λ i. head-by (e0 i) (e1 i) (e2 i) (e3 i) (address-of (word ws 4)) (mask-of (word ws 5))
-
-  pub stops-at-address : {o p z s : ℕ} → Some o ≡ small-of (word ws 0) → Some p ≡ small-of (word ws 1) → Some z ≡ small-of (word ws 2) → Some s ≡ small-of (word ws 3) → None ≡ address-of (word ws 4) → Err field.Address ≡ head-of ws
-  unfolding head-of
-  stops-at-address e0 e1 e2 e3 e4 = λ i. head-by (e0 i) (e1 i) (e2 i) (e3 i) (e4 i) (mask-of (word ws 5))
-
-  pub stops-at-mask : {o p z s a : ℕ} → Some o ≡ small-of (word ws 0) → Some p ≡ small-of (word ws 1) → Some z ≡ small-of (word ws 2) → Some s ≡ small-of (word ws 3) → Some a ≡ address-of (word ws 4) → None ≡ mask-of (word ws 5) → Err field.Mask ≡ head-of ws
-  unfolding head-of
-  stops-at-mask e0 e1 e2 e3 e4 e5 = λ i. head-by (e0 i) (e1 i) (e2 i) (e3 i) (e4 i) (e5 i)
-
-  pub whole-head : {o p z s a m : ℕ} → Some o ≡ small-of (word ws 0) → Some p ≡ small-of (word ws 1) → Some z ≡ small-of (word ws 2) → Some s ≡ small-of (word ws 3) → Some a ≡ address-of (word ws 4) → Some m ≡ mask-of (word ws 5) → Ok (record { opcode = o; param = p; size = z; source = s; address = a; mask = m }) ≡ head-of ws
-  unfolding head-of
-  whole-head e0 e1 e2 e3 e4 e5 = λ i. head-by (e0 i) (e1 i) (e2 i) (e3 i) (e4 i) (e5 i)
-
-  pub stops-at-head : {f : Field} (last : List ℕ) → Err f ≡ head-of ws → Err f ≡ request-of ws last
-  unfolding request-of
-  stops-at-head last e = λ i. request-by (e i) (bytes-of last)
-
-  pub stops-at-data : {h : RequestHead} (last : List ℕ) → Ok h ≡ head-of ws → None ≡ bytes-of last → Err field.Data ≡ request-of ws last
-  unfolding request-of
-  stops-at-data last e d = λ i. request-by (e i) (d i)
-
-  pub whole-request : {h : RequestHead} {bs : List ℕ} (last : List ℕ) → Ok h ≡ head-of ws → Some bs ≡ bytes-of last → Ok (record { head = h; bytes = bs }) ≡ request-of ws last
-  unfolding request-of
-  whole-request last e d = λ i. request-by (e i) (d i)
+-- a request by what was read of its head and its data
+pub request-is : (ws : List (List ℕ)) (last : List ℕ) {h : Result RequestHead Field} {bs : Option (List ℕ)} → h ≡ head-of ws → bs ≡ bytes-of last → request-by h bs ≡ request-of ws last
+unfolding request-of
+request-is ws last h bs = λ i. request-by (h i) (bs i)
 
 pub no-words : (xs : List (RefT (List ℕ))) → length xs ≡ 0 → nothing ≡ reading (map now xs)
 unfolding reading
@@ -83,28 +56,18 @@ pub miscounted : (xs : List (RefT (List ℕ))) → (length xs ≡ 0 → ⊥) →
 unfolding reading
 miscounted xs n0 n6 n7 = rw (length-map xs now, ne-eqb _ _ n0, ne-eqb _ _ n6, ne-eqb _ _ n7) refl
 
-pub six : (xs : List (RefT (List ℕ))) → length xs ≡ 6 → told (request-of (map now (take 6 xs)) []) ≡ reading (map now xs)
+-- six words and what stands behind them, if it is one word or none
+pub counted : (xs : List (RefT (List ℕ))) (last : List ℕ) → 6 ≤ length xs → length xs ≤ 7 → last ≡ now (getD xs 6 absent) → told (request-of (map now (take 6 xs)) last) ≡ reading (map now xs)
 unfolding reading request-of head-of
-six [] h = absurd (omega arith)
-six (a ∷ []) h = absurd (omega arith)
-six (a ∷ b ∷ []) h = absurd (omega arith)
-six (a ∷ b ∷ c ∷ []) h = absurd (omega arith)
-six (a ∷ b ∷ c ∷ d ∷ []) h = absurd (omega arith)
-six (a ∷ b ∷ c ∷ d ∷ e ∷ []) h = absurd (omega arith)
-six (a ∷ b ∷ c ∷ d ∷ e ∷ f ∷ []) h = refl
-six (a ∷ b ∷ c ∷ d ∷ e ∷ f ∷ g ∷ xs) h = absurd (omega arith)
-
-pub seven : (xs : List (RefT (List ℕ))) → length xs ≡ 7 → told (request-of (map now (take 6 xs)) (now (getD xs 6 absent))) ≡ reading (map now xs)
-unfolding reading request-of head-of
-seven [] h = absurd (omega arith)
-seven (a ∷ []) h = absurd (omega arith)
-seven (a ∷ b ∷ []) h = absurd (omega arith)
-seven (a ∷ b ∷ c ∷ []) h = absurd (omega arith)
-seven (a ∷ b ∷ c ∷ d ∷ []) h = absurd (omega arith)
-seven (a ∷ b ∷ c ∷ d ∷ e ∷ []) h = absurd (omega arith)
-seven (a ∷ b ∷ c ∷ d ∷ e ∷ f ∷ []) h = absurd (omega arith)
-seven (a ∷ b ∷ c ∷ d ∷ e ∷ f ∷ g ∷ []) h = refl
-seven (a ∷ b ∷ c ∷ d ∷ e ∷ f ∷ g ∷ x ∷ xs) h = absurd (omega arith)
+counted [] last l g w = absurd (omega arith)
+counted (a ∷ []) last l g w = absurd (omega arith)
+counted (a ∷ b ∷ []) last l g w = absurd (omega arith)
+counted (a ∷ b ∷ c ∷ []) last l g w = absurd (omega arith)
+counted (a ∷ b ∷ c ∷ d ∷ []) last l g w = absurd (omega arith)
+counted (a ∷ b ∷ c ∷ d ∷ e ∷ []) last l g w = absurd (omega arith)
+counted (a ∷ b ∷ c ∷ d ∷ e ∷ f ∷ []) last l g w = ap (λ v. told (request-of (map now (a ∷ b ∷ c ∷ d ∷ e ∷ f ∷ [])) v)) w
+counted (a ∷ b ∷ c ∷ d ∷ e ∷ f ∷ x ∷ []) last l g w = ap (λ v. told (request-of (map now (a ∷ b ∷ c ∷ d ∷ e ∷ f ∷ [])) v)) w
+counted (a ∷ b ∷ c ∷ d ∷ e ∷ f ∷ x ∷ y ∷ xs) last l g w = absurd (omega arith)
 
 pub says : {E : Type 0} (r : Result Line E) {a b : Reading} → a ≡ b → made r (λ said. view said ≡ a) → made r (λ said. view said ≡ b)
 says r {a} {b} e = made-weaker r (λ said. view said ≡ a) (λ said. view said ≡ b) (λ said p. p ∙ e)

@@ -20,13 +20,13 @@ abbrev pub reads-on : Base → ℕ → ℕ → List ℕ → Option ℕ
 reads-on base limit n [] = Some n
 reads-on base limit n (b ∷ bs) = and-then (appended-of base limit n b) (λ m. reads-on base limit m bs)
 
+pub radix-pos : (base : Base) → 0 < radix base
+radix-pos Decimal = omega arith
+radix-pos Hexadecimal = omega arith
+
 module _ (base : Base) (limit : ℕ) where
   abbrev weighed : ℕ → List ℕ → Option ℕ
   weighed n ds = at-most limit (n * radix base ^ length ds + value base ds)
-
-  radix-pos : (base : Base) → 0 < radix base
-  radix-pos Decimal = omega arith
-  radix-pos Hexadecimal = omega arith
 
   carried : (n d k v : ℕ) → (n * radix base + d) * radix base ^ k + v ≡ n * radix base ^ suc k + (d * radix base ^ k + v)
   carried n d k v =

@@ -9,13 +9,10 @@ use native.Mathlib.Omega.{arith}
 use lib.Arith.{mod-mul}
 use lib.ListN.{length}
 use Rattle.std.proofs.shelf.Bits.{mod-below}
-use Rattle.std.proofs.shelf.Results.{made-weaker}
 use Rattle.std.proofs.shelf.Tests.{cases-lt, le-leb}
 use Rattle.std.proofs.shelf.Ways.{tells}
 use Rattle.std.specs.Options.{mapped}
 use Rattle.std.specs.declared.option.Option.the-variants.{None, Some}
-use Rattle.std.specs.Vec.{made}
-use Rattle.std.specs.declared.result.Result.{Result}
 use Rattle.std.specs.declared.result.Result.the-variants.{Ok}
 use Rattle.std.specs.shelf.Lists.{All}
 use Rattle.message.specs.declared.request.RequestHead.{RequestHead}
@@ -24,10 +21,9 @@ use Rattle.sheet.specs.declared.numeral.Base.{Base}
 use Rattle.sheet.specs.declared.numeral.Base.the-variants.{Decimal, Hexadecimal}
 use Rattle.sheet.specs.Numeral.{and-then, radix, digit-of, digits-of, value, at-most, number-of, byte-of, paired, bytes-of}
 use Rattle.sheet.specs.Words.{blank, comment, Plain, Typed, spaced, words-of}
-use Rattle.sheet.specs.declared.line.Line.{Line}
-use Rattle.sheet.specs.Line.{Reading, request, reading, head-of, request-of, line-of, view}
+use Rattle.sheet.specs.Line.{request, reading, head-of, request-of, line-of}
 use Rattle.sheet.specs.Written.{digit-text, numeral, pairs, data-words, request-words, written, Fits}
-use Rattle.sheet.proofs.Positions.{bytes-more}
+use Rattle.sheet.proofs.Positions.{radix-pos, bytes-more}
 use Rattle.sheet.proofs.Spaced.{words-spaced}
 
 -- a digit's text is read as the digit
@@ -44,10 +40,6 @@ text-high d le lt =
 text-read : (base : Base) (d : ℕ) → d < radix base → digit-of base (digit-text d) ≡ Some d
 text-read Decimal d lt = text-low Decimal d lt
 text-read Hexadecimal d lt = ⊎-elim (text-low Hexadecimal d) (λ le. text-high d le lt) (cases-lt d 10)
-
-radix-pos : (base : Base) → 0 < radix base
-radix-pos Decimal = omega arith
-radix-pos Hexadecimal = omega arith
 
 -- the digits of a numeral, and their value
 abbrev places : Base → ℕ → ℕ → List ℕ
@@ -163,7 +155,3 @@ words-read head (b ∷ bs) f = rw (head-read (record { head = head; bytes = b �
 pub written-read : (q : Request) → Fits q → line-of (written q) ≡ request q
 unfolding written
 written-read q f = ap reading (words-spaced (request-words q) (words-typed q)) ∙ words-read (q .head) (q .bytes) f
-
--- an answer to a line that says x says x
-pub says : {E : Type 0} (r : Result Line E) (line : List ℕ) (x : Reading) → made r (λ said. view said ≡ line-of line) → line-of line ≡ x → made r (λ said. view said ≡ x)
-says r line x h e = made-weaker r (λ said. view said ≡ line-of line) (λ said. view said ≡ x) (λ _ same. same ∙ e) h

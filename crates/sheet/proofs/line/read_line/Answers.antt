@@ -2,8 +2,9 @@ use mathlib.Core.Path.{_≡_, ap, _∙_}
 use borrow.Author.Needs.{needs}
 use Rattle.std.specs.Vec.{made}
 use Rattle.sheet.specs.Line.{reading, line-of, view}
+use Rattle.sheet.proofs.Fields.{says}
 use Rattle.sheet.proofs.Spaced.{words-spaced}
-use Rattle.sheet.proofs.Writing.{written-read, says}
+use Rattle.sheet.proofs.Writing.{written-read}
 use Rattle.sheet.proofs.line.read_line.Needs as need
 
 pub returns-in-Break-words : need.returns-in-Break-words
@@ -16,6 +17,6 @@ returns c =
     let said : made r (λ s. view s ≡ line-of line) = search needs in
     record {
       said = said;
-      typed = λ ws h e. says r line (reading ws) said (ap line-of e ∙ ap reading (words-spaced ws h));
-      written = λ q f e. says r line _ said (ap line-of e ∙ written-read q f);
+      typed = λ ws h e. says r (ap line-of e ∙ ap reading (words-spaced ws h)) said;
+      written = λ q f e. says r (ap line-of e ∙ written-read q f) said;
     }
