@@ -2,7 +2,7 @@
 use mathlib.Core.Path.{_≡_, refl, sym, ap, subst, _∙_}
 use mathlib.Core.Bool.{Bool, true, false, cond, not, _||_}
 use mathlib.Core.Logic.{_⊎_, inl, inr, ⊎-elim}
-use Prim.Native.Nat.{ℕ, _+_, _-_, _*_, _/_, _%_, _^_, _<_, _≤_}
+use Prim.Native.Nat.{ℕ, _-_, _/_, _%_, _^_, _<_, _≤_}
 use native.Mathlib.Nat.{mul-mod-left}
 use native.Mathlib.Omega.{arith}
 use lib.Dec.{eqb, ltb, leb}
@@ -15,7 +15,6 @@ use Rattle.std.specs.declared.result.Result.the-variants.{Ok, Err}
 use Rattle.message.specs.declared.refusal.Refusal.{Refusal}
 use Rattle.message.specs.declared.refusal.Refusal.the-variants as no
 use Rattle.message.specs.declared.operation.Operation.{Operation}
-use Rattle.message.specs.declared.operation.Operation.the-variants.{PutFullData, PutPartialData, ArithmeticData, LogicalData, Get, Intent}
 use Rattle.message.specs.Refusal.{unless-refused}
 use Rattle.message.specs.Operation.{operation-of, has-data}
 use Rattle.message.specs.Request.{Request, Legal, atomic, partial, size-fits, aligned, mask-fits, data-length, fitted, placed, filled, checked, Tells-legal}

@@ -1,13 +1,13 @@
 -- Address sets, digit by digit and address by address.
 use mathlib.Core.Path.{_≡_, refl, sym, ap, subst, _∙_}
-use mathlib.Core.Bool.{Bool, true, false, _&&_}
-use mathlib.Core.Logic.{_⊎_, inl, inr, ⊎-elim}
+use mathlib.Core.Bool.{true}
+use mathlib.Core.Logic.{_⊎_, ⊎-elim}
 use Prim.Native.Nat.{ℕ, zero, suc, _+_, _-_, _*_, _/_, _%_, _^_, _<_, _≤_, min, max}
 use native.Mathlib.Nat.{pow-zero, pow-suc, add-div-right}
 use native.Mathlib.Numerals.{add-one}
 use native.Mathlib.Omega.{arith}
 use lib.Bits.{bitAnd, bitOr, bitXor, differ, or-lt}
-use lib.Count.{trailingZeros, under}
+use lib.Count.{trailingZeros}
 use lib.Dec.{eqb, leb}
 use lib.Pow.{pow-pos, pow-mono}
 use Rattle.std.specs.Orderings.{Decides}
@@ -16,7 +16,7 @@ use Rattle.std.proofs.shelf.Tests.{eqb-true, eq-eqb, leb-true, le-leb, and-part
 use Rattle.std.proofs.shelf.Ways.{same-from-decides}
 use Rattle.message.specs.declared.request.RequestHead.{RequestHead}
 use Rattle.message.specs.Bits.{bit}
-use Rattle.message.specs.AddressSet.{inverted, contains, overlap, lies-in, Member, Meet, Every-byte, Same-digits}
+use Rattle.message.specs.AddressSet.{inverted, contains, overlap, lies-in, Meet, Every-byte, Same-digits}
 use Rattle.message.proofs.Digits.{zero-or-one, zero-from-digits, digit-of-zero, and-digit, or-digit, xor-digit, not-digit, no-digit-above, below-from-digits, every-digit, full-from-digits, bit-first, bit-next, half-turned}
 
 -- two digits that do not differ are equal

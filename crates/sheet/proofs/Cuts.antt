@@ -1,14 +1,14 @@
--- How the code cuts a line into its words. Assumes nothing.
-use mathlib.Core.Path.{_≡_, refl, sym, ap, subst, _∙_}
-use mathlib.Core.Bool.{Bool, true, false, cond, not}
-use mathlib.Core.List.{List, [], _∷_, _++_}
-use Prim.Native.Nat.{ℕ, suc, _+_, _≤_, _<_}
+-- How the code cuts a line into its words.
+use mathlib.Core.Path.{_≡_, refl, ap, _∙_}
+use mathlib.Core.Bool.{Bool, true, false, cond}
+use mathlib.Core.List.{List, [], _∷_}
+use Prim.Native.Nat.{ℕ, _<_}
 use native.Mathlib.Numerals.{one-add}
 use native.Mathlib.Omega.{arith}
 use lib.ListN.{length, take, drop}
 use Rattle.std.specs.shelf.Lists.{leading, kept-by}
 use Rattle.sheet.specs.declared.words.Stretch.the-variants.{Blanks, Word, BeforeComment}
-use Rattle.sheet.specs.Words.{blank, comment, belongs, said, joined-on, pieces, some, runs, words-of}
+use Rattle.sheet.specs.Words.{blank, comment, belongs, said, joined-on, pieces, some, runs}
 
 pub said-is : (bs : List ℕ) → said bs ≡ take (leading (belongs BeforeComment) bs) bs
 said-is [] = refl

@@ -1,4 +1,4 @@
--- Numerals read from the left, and bytes read by pairs. Assumes nothing.
+-- Numerals read from the left, and bytes read by pairs.
 use mathlib.Core.Path.{_≡_, refl, sym, ap, _∙_}
 use mathlib.Core.Bool.{Bool, true, false, cond}
 use mathlib.Core.List.{List, [], _∷_, _++_, append-assoc}

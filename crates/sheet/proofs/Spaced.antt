@@ -1,6 +1,6 @@
--- Words that are typed with a space after each are the words of their line. Assumes nothing.
+-- Words that are typed with a space after each are the words of their line.
 use mathlib.Core.Path.{_≡_, refl, ap, _∙_}
-use mathlib.Core.Bool.{true, false, cond}
+use mathlib.Core.Bool.{cond}
 use mathlib.Core.List.{List, [], _∷_, _++_}
 use Prim.Native.Nat.{ℕ}
 use native.Mathlib.Omega.{arith}

@@ -1,7 +1,7 @@
 -- A line that writes a request is read as it.
 use mathlib.Core.Path.{_≡_, refl, sym, ap, _∙_}
 use mathlib.Core.Bool.{cond}
-use mathlib.Core.List.{List, [], _∷_, _++_}
+use mathlib.Core.List.{List, [], _∷_}
 use mathlib.Core.Logic.{⊎-elim}
 use Prim.Native.Nat.{ℕ, zero, suc, _+_, _-_, _*_, _/_, _%_, _^_, _≤_, _<_}
 use native.Mathlib.Nat.{pow-zero, pow-suc, mul-comm, mod-one, mod-eq-of-lt, one-le-pow}
@@ -19,8 +19,8 @@ use Rattle.message.specs.declared.request.RequestHead.{RequestHead}
 use Rattle.message.specs.Request.{Request}
 use Rattle.sheet.specs.declared.numeral.Base.{Base}
 use Rattle.sheet.specs.declared.numeral.Base.the-variants.{Decimal, Hexadecimal}
-use Rattle.sheet.specs.Numeral.{and-then, radix, digit-of, digits-of, value, at-most, number-of, byte-of, paired, bytes-of}
-use Rattle.sheet.specs.Words.{blank, comment, Plain, Typed, spaced, words-of}
+use Rattle.sheet.specs.Numeral.{and-then, radix, digit-of, digits-of, value, at-most, number-of, byte-of, bytes-of}
+use Rattle.sheet.specs.Words.{blank, comment, Plain, Typed, spaced}
 use Rattle.sheet.specs.Line.{request, reading, head-of, request-of, line-of}
 use Rattle.sheet.specs.Written.{digit-text, numeral, pairs, data-words, request-words, written, Fits}
 use Rattle.sheet.proofs.Positions.{radix-pos, bytes-more}

@@ -1,4 +1,4 @@
-use mathlib.Core.Path.{_≡_, refl, ap, _∙_}
+use mathlib.Core.Path.{ap}
 use borrow.Author.Needs.{needs}
 use Rattle.message.specs.Refusal.{number-of}
 use Rattle.message.specs.Request.{placed, checked}

@@ -1,4 +1,4 @@
-use mathlib.Core.Path.{_≡_, sym, ap, subst, _∙_}
+use mathlib.Core.Path.{sym, ap, _∙_}
 use mathlib.Core.List.{_++_, append-nil}
 use Prim.Native.Nat.{_≤_, _<_}
 use lib.ListN.{length, drop}
@@ -8,7 +8,7 @@ use borrow.Author.Tests.{true-eqb, false-eqb}
 use Rattle.std.specs.Of.Vec.{vec-items}
 use Rattle.std.specs.Options.{mapped}
 use Rattle.std.specs.declared.option.Option.{Option}
-use Rattle.std.specs.declared.option.Option.the-variants.{None, Some}
+use Rattle.std.specs.declared.option.Option.the-variants.{Some}
 use Rattle.std.proofs.shelf.Lists.{take-rest}
 use Rattle.sheet.specs.Numeral.{bytes-of}
 use Rattle.sheet.proofs.Positions.{mapped-same, pairs-end, pairs-odd, pairs-none, pairs-more-by}
