@@ -1,3 +1,1 @@
-pub mod AddressMap
-pub mod Finding
-pub mod Report
+pub mod Show

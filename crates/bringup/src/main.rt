@@ -1,41 +1,28 @@
 // Vets a request sheet: reads it from standard input and says of each request whether it is legal and where it lies.
-mod address_map;
-mod finding;
-mod report;
+mod show;
 
-use address_map::AddressMap;
-use address_map::AddressMapDisplay;
 use message::refusal::RefusalError;
-use report::Row;
-use report::RowDisplay;
-use report::Tally;
-use report::TallyDisplay;
+use show::show_map;
+use show::show_row;
+use show::show_tally;
 use std::error::AnyError;
-use std::io::BufRead;
-use std::io::BufReader;
+use std::io::Read;
+use vetting::address_map::AddressMap;
 
 fn main(rt: LibcRuntime) -> Result<(), AnyError> {
-    rt.report(vet_sheet(&rt))
+    rt.report(run(&rt))
 }
 
-fn vet_sheet(rt: &LibcRuntime) -> Result<(), AnyError> {
+fn run(rt: &LibcRuntime) -> Result<(), AnyError> {
+    let mut sheet = Vec::new(rt.alloc());
+    rt.stdin().read_to_end(&mut sheet)?;
     let map = AddressMap::bench()?;
-    println!(rt, "{map}")?;
-    println!(rt, "{}", Row::HEADING)?;
-    let mut tally = Tally::new();
-    let mut input = BufReader::new(rt.stdin());
-    let mut text = Vec::new(rt.alloc());
-    for line in 1..=u64::MAX {
-        text.clear();
-        if input.read_until(b'\n', &mut text)? == 0 {
-            break;
-        }
-        let said = text.strip_suffix(b"\n").unwrap_or(&text);
-        if let Some(finding) = map.vet_line(rt.alloc(), said)? {
-            tally.count(finding);
-            println!(rt, "{}", Row { line, finding })?;
-        }
+    let report = map.vet_sheet(rt.alloc(), &sheet)?;
+    show_map(rt, map)?;
+    println!(rt, "line  operation             address   bytes  verdict")?;
+    for row in &report.rows {
+        show_row(rt, *row)?;
     }
-    println!(rt, "\n{tally}")?;
+    show_tally(rt, report.tally)?;
     Ok(())
 }

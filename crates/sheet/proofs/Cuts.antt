@@ -1,14 +1,47 @@
--- How the code cuts a line into its words.
-use mathlib.Core.Path.{_≡_, refl, ap, _∙_}
+-- How the code cuts a text into lines, and a line into its words.
+use mathlib.Core.Path.{_≡_, refl, sym, ap, _∙_}
 use mathlib.Core.Bool.{Bool, true, false, cond}
 use mathlib.Core.List.{List, [], _∷_}
-use Prim.Native.Nat.{ℕ, _<_}
-use native.Mathlib.Numerals.{one-add}
+use Prim.Native.Nat.{ℕ, suc, _<_}
+use native.Mathlib.Numerals.{add-one, one-add}
 use native.Mathlib.Omega.{arith}
 use lib.ListN.{length, take, drop}
+use Rattle.std.proofs.shelf.Lists.{drop-drop}
 use Rattle.std.specs.shelf.Lists.{leading, kept-by}
-use Rattle.sheet.specs.declared.words.Stretch.the-variants.{Blanks, Word, BeforeComment}
-use Rattle.sheet.specs.Words.{blank, comment, belongs, said, joined-on, pieces, some, runs}
+use Rattle.sheet.specs.declared.stretch.Stretch.the-variants.{Line, Blanks, Word, BeforeComment}
+use Rattle.sheet.specs.Stretch.{line-feed, blank, comment, belongs, joined-on}
+use Rattle.sheet.specs.Lines.{lines-of}
+use Rattle.sheet.specs.Words.{said, pieces, some, runs}
+
+abbrev pub line-length : List ℕ → ℕ
+line-length text = leading (belongs Line) text
+
+-- a text's first line and the lines after its line feed, by those of the text behind its first byte
+longer : (b : ℕ) (bs : List ℕ) (t : Bool) → line-feed b ≡ t → joined-on b (lines-of bs) ≡ (b ∷ take (line-length bs) bs) ∷ lines-of (drop (suc (line-length bs)) bs) → lines-of (b ∷ bs) ≡ take (line-length (b ∷ bs)) (b ∷ bs) ∷ lines-of (drop (suc (line-length (b ∷ bs))) (b ∷ bs))
+unfolding lines-of
+longer b bs true e on = rw e refl
+longer b bs false e on = rw (e, one-add) on
+
+pub first-of-lines : (text : List ℕ) → 0 < length text → lines-of text ≡ take (line-length text) text ∷ lines-of (drop (suc (line-length text)) text)
+unfolding lines-of
+first-of-lines [] h = absurd (omega arith)
+first-of-lines (b ∷ []) h = longer b [] (line-feed b) refl refl
+first-of-lines (b ∷ c ∷ cs) h = longer b (c ∷ cs) (line-feed b) refl (ap (joined-on b) (first-of-lines (c ∷ cs) (omega arith)))
+
+pub no-lines : (text : List ℕ) → length text ≡ 0 → lines-of text ≡ []
+unfolding lines-of
+no-lines [] h = refl
+no-lines (b ∷ bs) h = absurd (omega arith)
+
+-- a text cut behind its first line, and one byte later
+pub cut-line : (text line rest : List ℕ) (k : ℕ) → 0 < length text → k ≡ line-length text → line ≡ take k text → rest ≡ drop k text → lines-of text ≡ line ∷ lines-of (drop 1 rest)
+cut-line text line rest k more at front back =
+    first-of-lines text more
+    ∙ ap (λ n. take n text ∷ lines-of (drop (suc n) text)) (sym at)
+    ∙ (λ i. sym front i ∷ lines-of (after i))
+  where
+    after : drop (suc k) text ≡ drop 1 rest
+    after = sym (ap (drop 1) back ∙ drop-drop 1 k text ∙ ap (λ n. drop n text) (add-one k))
 
 pub said-is : (bs : List ℕ) → said bs ≡ take (leading (belongs BeforeComment) bs) bs
 said-is [] = refl

@@ -5,7 +5,8 @@ use mathlib.Core.List.{List, [], _∷_, _++_}
 use Prim.Native.Nat.{ℕ}
 use native.Mathlib.Omega.{arith}
 use Rattle.std.specs.shelf.Lists.{All, kept-by}
-use Rattle.sheet.specs.Words.{blank, comment, said, joined-on, pieces, some, runs, words-of, Plain, Typed, spaced}
+use Rattle.sheet.specs.Stretch.{blank, comment, joined-on}
+use Rattle.sheet.specs.Words.{said, pieces, some, runs, words-of, Plain, Typed, spaced}
 
 said-word : (w rest : List ℕ) → All Plain w → said (w ++ rest) ≡ w ++ said rest
 said-word [] rest h = refl

@@ -20,7 +20,8 @@ use Rattle.message.specs.Request.{Request}
 use Rattle.sheet.specs.declared.numeral.Base.{Base}
 use Rattle.sheet.specs.declared.numeral.Base.the-variants.{Decimal, Hexadecimal}
 use Rattle.sheet.specs.Numeral.{and-then, radix, digit-of, digits-of, value, at-most, number-of, byte-of, bytes-of}
-use Rattle.sheet.specs.Words.{blank, comment, Plain, Typed, spaced}
+use Rattle.sheet.specs.Stretch.{blank, comment}
+use Rattle.sheet.specs.Words.{Plain, Typed, spaced}
 use Rattle.sheet.specs.Line.{request, reading, head-of, request-of, line-of}
 use Rattle.sheet.specs.Written.{digit-text, numeral, pairs, data-words, request-words, written, Fits}
 use Rattle.sheet.proofs.Positions.{radix-pos, bytes-more}

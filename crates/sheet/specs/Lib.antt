@@ -1,4 +1,6 @@
-pub mod Line
-pub mod Numeral
+pub mod Stretch
+pub mod Lines
 pub mod Words
+pub mod Numeral
+pub mod Line
 pub mod Written

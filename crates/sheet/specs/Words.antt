@@ -1,37 +1,16 @@
 -- The words of a line.
 use mathlib.Core.Path.{_≡_}
-use mathlib.Core.Bool.{Bool, true, false, cond, not, _||_}
+use mathlib.Core.Bool.{Bool, true, false, cond}
 use mathlib.Core.List.{List, [], _∷_, _++_}
 use Prim.Native.Nat.{ℕ, _<_}
-use lib.Dec.{eqb}
 use lib.ListN.{length}
 use Rattle.std.specs.shelf.Lists.{All, kept-by}
-use Rattle.sheet.specs.declared.words.Stretch.{Stretch}
-use Rattle.sheet.specs.declared.words.Stretch.the-variants.{Blanks, Word, BeforeComment}
-
--- space, tab and carriage return
-unfoldable pub blank : ℕ → Bool
-blank byte = eqb byte 32 || (eqb byte 9 || eqb byte 13)
-
--- `#`
-unfoldable pub comment : ℕ → Bool
-comment byte = eqb byte 35
-
--- the bytes of each stretch of a line
-abbrev pub belongs : Stretch → ℕ → Bool
-belongs Blanks byte = blank byte
-belongs Word byte = not (blank byte)
-belongs BeforeComment byte = not (comment byte)
+use Rattle.sheet.specs.Stretch.{blank, comment, joined-on}
 
 -- a line without its comment
 abbrev pub said : List ℕ → List ℕ
 said [] = []
 said (b ∷ bs) = cond (comment b) [] (b ∷ said bs)
-
--- a byte more at the front of the first piece
-abbrev pub joined-on : ℕ → List (List ℕ) → List (List ℕ)
-joined-on b [] = (b ∷ []) ∷ []
-joined-on b (piece ∷ pieces) = (b ∷ piece) ∷ pieces
 
 -- a text cut at each blank: the pieces between them, of which some may be empty
 abbrev pub pieces : List ℕ → List (List ℕ)

@@ -5,48 +5,11 @@ ghost use lib.ListN.{length};
 ghost use Rattle.std.specs.Of.Vec.{vec-items};
 ghost use Rattle.std.specs.Options.{Cases};
 ghost use Rattle.std.specs.Vec.{made};
-ghost use Rattle.std.specs.shelf.Lists.{leading};
-ghost use Rattle.sheet.specs.Words.{blank, belongs, runs, words-of};
+ghost use Rattle.sheet.specs.Words.{runs, words-of};
+use crate::stretch::Stretch;
+use crate::stretch::reach;
 use std::alloc::AllocError;
 use std::alloc::Global;
-
-// A stretch of a line, by the bytes that belong to it.
-#[derive(Clone, Copy)]
-enum Stretch {
-    Blanks,
-    Word,
-    BeforeComment,
-}
-
-impl Stretch {
-    fn takes(self, byte: u8) -> bool
-        ensures { λ r. ⌜ r ≡ belongs self byte ⌝ }
-    {
-        match self {
-            Stretch::Blanks => is_blank(byte),
-            Stretch::Word => !is_blank(byte),
-            Stretch::BeforeComment => byte != b'#',
-        }
-    }
-}
-
-fn is_blank(byte: u8) -> bool
-    ensures { λ r. ⌜ r ≡ blank byte ⌝ }
-{
-    byte == b' ' || byte == b'\t' || byte == b'\r'
-}
-
-// How many bytes at the front of `text` the stretch takes.
-fn reach(text: &[u8], stretch: Stretch) -> usize
-    ensures { λ r. ⌜ r ≡ leading (belongs stretch) (now (text .entry)) ⌝ }
-{
-    for (i, byte) in text.iter().enumerate() {
-        if !stretch.takes(*byte) {
-            return i;
-        }
-    }
-    text.len()
-}
 
 // The first word of `text`, and what follows it.
 fn first_word(text: &[u8]) -> Option<(&[u8], &[u8])>

@@ -5,8 +5,9 @@ use native.Mathlib.Omega.{arith}
 use lib.ListN.{length, take, drop}
 use borrow.Author.Tests.{true-eqb, false-eqb}
 use Rattle.std.proofs.shelf.Sums.{leading-le-length}
-use Rattle.sheet.specs.Words.{belongs, runs}
-use Rattle.sheet.specs.declared.words.Stretch.the-variants.{Blanks, Word}
+use Rattle.sheet.specs.Stretch.{belongs}
+use Rattle.sheet.specs.Words.{runs}
+use Rattle.sheet.specs.declared.stretch.Stretch.the-variants.{Blanks, Word}
 use Rattle.sheet.proofs.Cuts.{past-blanks, word-length, no-runs, skipped, at-word, first-run}
 use Rattle.sheet.proofs.words.first_word.Needs as need
 

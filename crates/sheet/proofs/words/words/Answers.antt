@@ -6,8 +6,9 @@ use denote.Ref.{now}
 use Rattle.std.specs.Of.Vec.{vec-items}
 use Rattle.std.proofs.shelf.Lists.{map-push}
 use Rattle.std.proofs.shelf.Sums.{leading-le-length}
-use Rattle.sheet.specs.Words.{belongs, runs, words-of}
-use Rattle.sheet.specs.declared.words.Stretch.the-variants.{BeforeComment}
+use Rattle.sheet.specs.Stretch.{belongs}
+use Rattle.sheet.specs.Words.{runs, words-of}
+use Rattle.sheet.specs.declared.stretch.Stretch.the-variants.{BeforeComment}
 use Rattle.sheet.proofs.Cuts.{said-is}
 use Rattle.sheet.proofs.words.words.Needs as need
 

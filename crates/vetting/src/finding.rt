@@ -2,20 +2,17 @@ ghost use mathlib.Core.Path.{_≡_};
 ghost use Rattle.std.specs.Vec.{made};
 ghost use Rattle.message.specs.Request.{request};
 ghost use Rattle.sheet.specs.Line.{line-of};
-ghost use Rattle.bringup.specs.Finding.{verdict-of, finding-of};
+ghost use Rattle.vetting.specs.Finding.{verdict-of, finding-of};
 use crate::address_map::AddressMap;
 use crate::address_map::Region;
-use crate::address_map::RegionDisplay;
 use message::operation::Operation;
 use message::refusal::Refusal;
-use message::refusal::RefusalDisplay;
 use message::request::RequestHead;
 use sheet::fault::Fault;
 use sheet::line::Line;
 use sheet::line::read_line;
 use std::alloc::AllocError;
 use std::alloc::Global;
-use std::fmt;
 
 // A legal request lies in a region, or in none.
 #[derive(Clone, Copy)]
@@ -52,16 +49,6 @@ impl AddressMap {
                 Ok(Some(Finding::Request(entry.head, verdict)))
             }
             Line::Unreadable(fault) => Ok(Some(Finding::Unreadable(fault))),
-        }
-    }
-}
-
-pub impl fmt::Display for Verdict as VerdictDisplay {
-    fn fmt<W: fmt::Write>(&self, f: &mut fmt::Formatter<W>) -> fmt::Result {
-        match *self {
-            Verdict::Legal(_, Some(region)) => write!(f, "legal, in {region}"),
-            Verdict::Legal(_, None) => f.write_str("legal, in no region"),
-            Verdict::Refused(refusal) => write!(f, "refused {}: {refusal}", refusal.number()),
         }
     }
 }

@@ -1,8 +1,8 @@
 use mathlib.Core.Path.{sym}
 use native.Mathlib.Omega.{arith}
 use Rattle.std.proofs.shelf.Sums.{leading-drop-yes, leading-drop-no, leading-drop-all}
-use Rattle.sheet.specs.Words.{belongs}
-use Rattle.sheet.proofs.words.reach.Needs as need
+use Rattle.sheet.specs.Stretch.{belongs}
+use Rattle.sheet.proofs.stretch.reach.Needs as need
 
 pub returns-then-not-takes : need.returns-then-not-takes
 returns-then-not-takes c =

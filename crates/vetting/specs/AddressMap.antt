@@ -4,9 +4,9 @@ use Rattle.std.specs.declared.option.Option.{Option}
 use Rattle.std.specs.declared.option.Option.the-variants.{Some, None}
 use Rattle.message.specs.declared.request.RequestHead.{RequestHead}
 use Rattle.message.specs.AddressSet.{lies-in}
-use Rattle.bringup.specs.declared.address_map.AddressMap.{AddressMap}
-use Rattle.bringup.specs.declared.address_map.Region.{Region}
-use Rattle.bringup.specs.declared.address_map.Region.the-variants.{Ram, Mailbox}
+use Rattle.vetting.specs.declared.address_map.AddressMap.{AddressMap}
+use Rattle.vetting.specs.declared.address_map.Region.{Region}
+use Rattle.vetting.specs.declared.address_map.Region.the-variants.{Ram, Mailbox}
 
 -- the region that a request lies in
 abbrev pub region-of : AddressMap → RequestHead → Option Region

@@ -1,6 +1,6 @@
 use borrow.Author.Needs.{needs}
-use Rattle.sheet.specs.Words.{blank}
-use Rattle.sheet.proofs.words.is_blank.Needs as need
+use Rattle.sheet.specs.Stretch.{blank}
+use Rattle.sheet.proofs.stretch.is_blank.Needs as need
 
 pub returns-then-byte-eq9 : need.returns-then-byte-eq9
 unfolding blank

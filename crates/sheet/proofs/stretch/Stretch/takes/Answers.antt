@@ -1,6 +1,6 @@
 use borrow.Author.Needs.{needs}
-use Rattle.sheet.specs.Words.{comment}
-use Rattle.sheet.proofs.words.Stretch.takes.Needs as need
+use Rattle.sheet.specs.Stretch.{comment}
+use Rattle.sheet.proofs.stretch.Stretch.takes.Needs as need
 
 pub returns-in-BeforeComment : need.returns-in-BeforeComment
 unfolding comment

@@ -7,13 +7,13 @@ use Rattle.message.specs.declared.operation.Operation.{Operation}
 use Rattle.message.specs.declared.refusal.Refusal.{Refusal}
 use Rattle.message.specs.Request.{Request, checked}
 use Rattle.sheet.specs.Line.{Reading, nothing, request, unreadable}
-use Rattle.bringup.specs.declared.address_map.AddressMap.{AddressMap}
-use Rattle.bringup.specs.declared.address_map.Region.{Region}
-use Rattle.bringup.specs.declared.finding.Finding.{Finding}
-use Rattle.bringup.specs.declared.finding.Finding.the-variants as finding
-use Rattle.bringup.specs.declared.finding.Verdict.{Verdict}
-use Rattle.bringup.specs.declared.finding.Verdict.the-variants.{Legal, Refused}
-use Rattle.bringup.specs.AddressMap.{region-of}
+use Rattle.vetting.specs.declared.address_map.AddressMap.{AddressMap}
+use Rattle.vetting.specs.declared.address_map.Region.{Region}
+use Rattle.vetting.specs.declared.finding.Finding.{Finding}
+use Rattle.vetting.specs.declared.finding.Finding.the-variants as finding
+use Rattle.vetting.specs.declared.finding.Verdict.{Verdict}
+use Rattle.vetting.specs.declared.finding.Verdict.the-variants.{Legal, Refused}
+use Rattle.vetting.specs.AddressMap.{region-of}
 
 -- an answer of `check` as a verdict
 abbrev pub judgement : Option Region → Result Operation Refusal → Verdict

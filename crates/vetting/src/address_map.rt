@@ -1,10 +1,9 @@
 ghost use mathlib.Core.Path.{_≡_};
 ghost use Rattle.std.specs.declared.result.Result.the-variants.{Ok, Err};
-ghost use Rattle.bringup.specs.AddressMap.{region-of};
+ghost use Rattle.vetting.specs.AddressMap.{region-of};
 use message::address_set::AddressSet;
 use message::refusal::Refusal;
 use message::request::RequestHead;
-use std::fmt;
 
 #[derive(Clone, Copy)]
 pub enum Region {
@@ -12,22 +11,11 @@ pub enum Region {
     Mailbox,
 }
 
-pub impl fmt::Display for Region as RegionDisplay {
-    fn fmt<W: fmt::Write>(&self, f: &mut fmt::Formatter<W>) -> fmt::Result {
-        f.pad(
-            match self {
-                Region::Ram => "ram",
-                Region::Mailbox => "mailbox",
-            },
-        )
-    }
-}
-
 // The bench's two regions.
 #[derive(Clone, Copy)]
 pub struct AddressMap {
-    ram: AddressSet,
-    mailbox: AddressSet,
+    pub ram: AddressSet,
+    pub mailbox: AddressSet,
 }
 
 impl AddressMap {
@@ -51,19 +39,5 @@ impl AddressMap {
         } else {
             None
         }
-    }
-}
-
-pub impl fmt::Display for AddressMap as AddressMapDisplay {
-    fn fmt<W: fmt::Write>(&self, f: &mut fmt::Formatter<W>) -> fmt::Result {
-        for (region, set) in [(Region::Ram, self.ram), (Region::Mailbox, self.mailbox)] {
-            writeln!(
-                f,
-                "region {region:<7}  base {:08x}  mask {:08x}",
-                set.base(),
-                set.mask()
-            )?;
-        }
-        Ok(())
     }
 }

@@ -1,0 +1,3 @@
+pub mod AddressMap
+pub mod Finding
+pub mod Report
