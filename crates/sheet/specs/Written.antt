@@ -29,6 +29,7 @@ abbrev pub data-words : List ℕ → List (List ℕ)
 data-words [] = []
 data-words (b ∷ bs) = pairs (b ∷ bs) ∷ []
 
+-- the words of a request, field by field
 abbrev pub request-words : Request → List (List ℕ)
 request-words q =
     numeral Decimal 3 (q .head .opcode)
@@ -39,6 +40,7 @@ request-words q =
     ∷ numeral Hexadecimal 16 (q .head .mask)
     ∷ data-words (q .bytes)
 
+-- a line that writes the request
 unfoldable pub written : Request → List ℕ
 written q = spaced (request-words q)
 

@@ -8,9 +8,9 @@ use lib.ListN.{length, take, getD, length-map}
 use denote.Ref.{RefT, now}
 use Rattle.std.specs.Iters.{folded}
 use Rattle.std.specs.declared.option.Option.{Option}
-use Rattle.std.specs.declared.option.Option.the-variants.{None, Some}
-use Rattle.std.proofs.shelf.Lists.{getD-map, take-more, take-all, length-take-le}
+use Rattle.std.proofs.shelf.Lists.{append-nil, getD-map, take-more, take-all, length-take-le}
 use Rattle.sheet.specs.Line.{line-of}
+use Rattle.sheet.proofs.Fields.{absent}
 use Rattle.vetting.specs.declared.address_map.AddressMap.{AddressMap}
 use Rattle.vetting.specs.declared.finding.Finding.{Finding}
 use Rattle.vetting.specs.declared.report.Row.{Row}
@@ -18,13 +18,9 @@ use Rattle.vetting.specs.declared.report.Tally.{Tally}
 use Rattle.vetting.specs.Finding.{finding-of}
 use Rattle.vetting.specs.Report.{empty, by-row, tally-of, row-of, rows-of}
 
-row-alone : (n : ℕ) (f : Option Finding) → row-of n f ++ [] ≡ row-of n f
-row-alone n None = refl
-row-alone n (Some f) = refl
-
 rows-push : (m : AddressMap) (n : ℕ) (lines : List (List ℕ)) (line : List ℕ) → rows-of m n (lines ++ line ∷ []) ≡ rows-of m n lines ++ row-of (n + length lines) (finding-of m (line-of line))
 rows-push m n [] line =
-    let f = finding-of m (line-of line) in row-alone n f ∙ ap (λ k. row-of k f) (sym (add-zero n))
+    let f = finding-of m (line-of line) in append-nil (row-of n f) ∙ ap (λ k. row-of k f) (sym (add-zero n))
 rows-push m n (l ∷ lines) line =
     let f = finding-of m (line-of line) in
     let first = row-of n (finding-of m (line-of l)) in
@@ -38,10 +34,6 @@ rows-more m lines i h =
     ap (rows-of m 1) (take-more lines i [] h)
     ∙ rows-push m 1 (take i lines) (getD lines i [])
     ∙ ap (λ n. rows-of m 1 (take i lines) ++ row-of n (finding-of m (line-of (getD lines i [])))) number
-
--- what a slice has past its end
-abbrev pub absent : RefT (List ℕ)
-absent = record { ptr = (0, 0); name = 0; now = [] }
 
 -- the rows after the line at i, which is held by reference
 pub row-more : (m : AddressMap) (items : List (RefT (List ℕ))) (i : ℕ) (lines : List (List ℕ)) (old : List Row) (f : Option Finding) → i < length items → map now items ≡ lines → old ≡ rows-of m 1 (take i lines) → f ≡ finding-of m (line-of (now (getD items i absent))) → old ++ row-of (i + 1) f ≡ rows-of m 1 (take (i + 1) lines)

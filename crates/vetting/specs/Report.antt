@@ -34,6 +34,7 @@ counted t (finding.Request q (Refused e)) =
 counted t (finding.Unreadable why) =
     record { legal = t .legal; refused = t .refused; unreadable = one-more (t .unreadable) }
 
+-- a row counts as its finding
 abbrev pub by-row : Tally → Row → Tally
 by-row t row = counted t (row .finding)
 
