@@ -1,10 +1,11 @@
-// Vets a request sheet: reads it from standard input, says of each request whether it is legal and where it lies, and draws its beats.
-use show::Shown;
-use show::rows::HEADER;
-use std::io;
+// Vets a request sheet: reads it from standard input and says of each request whether it is legal and where it lies.
+#![tactic(auto)]
+
+mod show;
+
+use show::{show_map, show_row, show_tally};
 use std::io::Read;
 use vetting::address_map::AddressMap;
-use vetting::report::Report;
 
 fn main(rt: HostRuntime) -> anyhow::Result<()> {
     run(&rt)
@@ -15,15 +16,11 @@ fn run(rt: &HostRuntime) -> anyhow::Result<()> {
     rt.stdin().read_to_end(&mut sheet)?;
     let map = AddressMap::bench()?;
     let report = map.vet_sheet(rt.alloc(), &sheet)?;
-    rt.println(Shown(map))?;
-    show_report(rt, &report)?;
-    Ok(())
-}
-
-fn show_report(rt: &impl Print, report: &Report) -> io::Result<()> {
-    rt.println(HEADER)?;
+    show_map(rt, map)?;
+    println!(rt; "line  operation             address   bytes  verdict")?;
     for row in &report.rows {
-        rt.println(Shown(*row))?;
+        show_row(rt, *row)?;
     }
-    print!(rt; "\n{}", Shown(report.tally))
+    show_tally(rt, report.tally)?;
+    Ok(())
 }

@@ -1,4 +1,6 @@
 // The worked cases: examples whose answers are known beforehand, each given by the product's own calls.
+#![tactic(auto)]
+
 ghost use Rattle.std.specs.Prelude.{◌≡◌, bit_and};
 ghost use Rattle.cases.specs.Worked.{Worked};
 

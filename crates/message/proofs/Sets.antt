@@ -1,5 +1,5 @@
 -- Address sets, digit by digit and address by address.
-use Rattle.std.proofs.Common.{◌≡◌, ℕ, zero, suc, ◌+◌, ◌-◌, ◌*◌, ◌/◌, ◌%◌, ◌^◌, ◌<◌, ◌≤◌, min, max, true, eqb, leb, ◌⊎◌, Decides, sym, refl, ap, ◌∙◌, subst, ⊎_elim, pow-suc, add-one, arith, pow_pos, pow_mono}
+use Rattle.std.proofs.Common.{◌≡◌, ℕ, zero, suc, ◌+◌, ◌-◌, ◌*◌, ◌/◌, ◌%◌, ◌^◌, ◌<◌, ◌≤◌, min, max, true, eqb, leb, Decides, sym, refl, ap, ◌∙◌, subst, ⊎_elim, pow-suc, add-one, arith, pow_pos, pow_mono}
 use native.Mathlib.Nat.{pow-zero, add-div_right}
 use lib.Bits.{bit_and, bit_or, bit_xor, differ, or_lt}
 use lib.Count.{count_trailing_zeros}

@@ -50,7 +50,7 @@ whole size = 2 ^ (2 ^ size) - 1
 
 -- bit i of a mask belongs to byte i of the message: no bit past it, and unless partial every bit of it
 abbrev pub mask_fits : Operation → ℕ → ℕ → Bool
-mask_fits o size mask = cond (partial o) (nat_lt mask (2 ^ (2 ^ size))) (mask == whole size)
+mask_fits o size mask = cond (partial o) (nat_lt mask (2 ^ (2 ^ size))) (mask == 2 ^ (2 ^ size) - 1)
 
 -- how many bytes of data a request carries
 abbrev pub data_length : Operation → ℕ → ℕ

@@ -46,7 +46,9 @@ response_has_data HintAck = false
 
 -- how many bytes of data a response carries
 abbrev pub response_length : ResponseOpcode → ℕ → ℕ
-response_length k size = cond (response_has_data k) (2 ^ size) 0
+response_length AccessAck size = 0
+response_length AccessAckData size = 2 ^ size
+response_length HintAck size = 0
 
 -- the responses, by their opcodes from 0 on
 abbrev pub responses : List ResponseOpcode

@@ -1,2 +1,5 @@
+pub mod Positions
+pub mod Cuts
 pub mod Fields
-mod Writing
+pub mod Spaced
+pub mod Writing

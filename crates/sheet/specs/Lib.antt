@@ -1,2 +1,6 @@
+pub mod Stretch
+pub mod Lines
+pub mod Words
+pub mod Numeral
 pub mod Line
 pub mod Written

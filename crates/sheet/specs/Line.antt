@@ -1,24 +1,23 @@
 -- What a line of a sheet says.
-use Rattle.std.specs.Prelude.{ℕ, ◌-◌, ◌^◌, Bool, cond, ◌||◌, List, [], length, Some, None, Ok, Err, vec_items, codes, Option, Result, ◌==◌, slice_index_or}
-use Rattle.std.specs.Str.{bytes_eq}
+use Rattle.std.specs.Prelude.{ℕ, ◌-◌, ◌^◌, cond, ◌||◌, List, [], length, Some, None, Ok, Err, vec_items, Option, Result, ◌==◌, slice_index_or}
 use Rattle.message.specs.declared.request.RequestHead.{RequestHead}
 use Rattle.message.specs.Request.{Request}
-use Rattle.text.specs.declared.numeral.Base.TheVariants.{Decimal, Hexadecimal}
-use Rattle.text.specs.Numeral.{number_of, bytes_of}
-use Rattle.text.specs.Words.{words_of}
 use Rattle.sheet.specs.declared.fault.Field.{Field}
 use Rattle.sheet.specs.declared.fault.Field.TheVariants as field
 use Rattle.sheet.specs.declared.fault.Fault.{Fault}
 use Rattle.sheet.specs.declared.fault.Fault.TheVariants as fault
 use Rattle.sheet.specs.declared.line.Line.{Line}
 use Rattle.sheet.specs.declared.line.Line.TheVariants as line
+use Rattle.sheet.specs.declared.numeral.Base.TheVariants.{Decimal, Hexadecimal}
+use Rattle.sheet.specs.Numeral.{number_of, bytes_of}
+use Rattle.sheet.specs.Words.{words_of}
 
 -- the next field, read only where this one can be
 abbrev pub then_read : {A B : Type 0} → Field → Option A → (A → Result B Field) → Result B Field
 then_read f None next = Err f
 then_read f (Some a) next = next a
 
--- opcode, param, size, source and a width: decimal, at most 255
+-- opcode, param, size and source: decimal, at most 255
 abbrev pub small_of : List ℕ → Option ℕ
 small_of word = number_of Decimal 255 word
 
@@ -63,7 +62,6 @@ request_of words last = request_by (head_of words) (bytes_of last)
 pub data Reading : Type 0 where
   nothing : Reading
   request : Request → Reading
-  width : ℕ → Reading
   unreadable : Fault → Reading
 
 -- a request, or the field at fault, as what its line says
@@ -71,29 +69,11 @@ abbrev pub told : Result Request Field → Reading
 told (Ok q) = request q
 told (Err f) = unreadable (fault.Field f)
 
--- the word that a width's line begins with
-abbrev pub width_word : List ℕ
-width_word = codes "width"
-
--- whether a word is that one, byte for byte
-abbrev pub is_width : List ℕ → Bool
-is_width word = bytes_eq word width_word
-
--- a width by its number, which may be at fault
-abbrev pub width_by : Option ℕ → Reading
-width_by None = unreadable (fault.Field field.Width)
-width_by (Some n) = width n
-
--- what words say that begin with `width`: one number follows
-abbrev pub width_of : List (List ℕ) → Reading
-width_of words = cond (length words == 2) (width_by (small_of (word words 1))) (unreadable fault.WordCount)
-
--- what words say together: `width` with its number, or a request in six words, or in seven with data
+-- what words say together: six, or seven with data
 unfoldable pub reading : List (List ℕ) → Reading
 reading words =
     cond (length words == 0) nothing (
-    cond (is_width (word words 0)) (width_of words) (
-    cond (length words == 6 || length words == 7) (told (request_of words (word words 6))) (unreadable fault.WordCount)))
+    cond (length words == 6 || length words == 7) (told (request_of words (word words 6))) (unreadable fault.WordCount))
 
 -- what a line says
 abbrev pub line_of : List ℕ → Reading
@@ -103,5 +83,4 @@ line_of line = reading (words_of line)
 abbrev pub view : Line → Reading
 view line.Nothing = nothing
 view (line.Request entry) = request (record { head = entry.head; bytes = vec_items entry.«data» })
-view (line.Width n) = width n
 view (line.Unreadable why) = unreadable why

@@ -1,11 +1,25 @@
--- A request and a width as a line writes them, each number with all the digits that its field can need.
-use Rattle.std.specs.Prelude.{ℕ, ◌^◌, ◌<◌, List, [], ◌∷◌}
+-- A request as a line writes it, each number with all the digits that its field can need.
+use Rattle.std.specs.Prelude.{ℕ, zero, suc, ◌+◌, ◌/◌, ◌%◌, ◌^◌, ◌<◌, cond, List, [], ◌∷◌, ◌++◌, nat_lt}
 use Rattle.std.specs.List.{AllByRecursion as All}
 use Rattle.message.specs.Request.{Request}
-use Rattle.text.specs.declared.numeral.Base.TheVariants.{Decimal, Hexadecimal}
-use Rattle.text.specs.Numeral.{numeral, pairs}
-use Rattle.text.specs.Words.{spaced}
-use Rattle.sheet.specs.Line.{width_word}
+use Rattle.sheet.specs.declared.numeral.Base.{Base}
+use Rattle.sheet.specs.declared.numeral.Base.TheVariants.{Decimal, Hexadecimal}
+use Rattle.sheet.specs.Numeral.{radix}
+use Rattle.sheet.specs.Words.{spaced}
+
+-- the byte of text for a digit: `0` is 48, `a` 97
+abbrev pub digit_text : ℕ → ℕ
+digit_text d = cond (nat_lt d 10) (48 + d) (87 + d)
+
+-- the k lowest digits of a number, the highest of them first
+abbrev pub numeral : Base → ℕ → ℕ → List ℕ
+numeral base zero n = []
+numeral base (suc k) n = digit_text (n / radix base ^ k % radix base) ∷ numeral base k n
+
+-- two digits for each byte
+abbrev pub pairs : List ℕ → List ℕ
+pairs [] = []
+pairs (b ∷ bs) = numeral Hexadecimal 2 b ++ pairs bs
 
 -- a word for data, where there is any
 abbrev pub data_words : List ℕ → List (List ℕ)
@@ -26,10 +40,6 @@ request_words q =
 -- a line that writes the request
 unfoldable pub written : Request → List ℕ
 written q = spaced (request_words q)
-
--- a line that writes the width
-unfoldable pub written_width : ℕ → List ℕ
-written_width n = spaced (width_word ∷ numeral Decimal 3 n ∷ [])
 
 -- each number fits its field
 pub record Fits (q : Request) : Type 0 where

@@ -1,6 +1,6 @@
 use std::fmt;
 
-// The fields of a request, in the order in which a line has them, and the number of a width.
+// The fields of a request, in the order in which a line has them.
 #[derive(Clone, Copy)]
 pub enum Field {
     Opcode,
@@ -10,7 +10,6 @@ pub enum Field {
     Address,
     Mask,
     Data,
-    Width,
 }
 
 // Why a line cannot be read.
@@ -28,8 +27,7 @@ impl fmt::Display for Fault {
 
 fn meaning(fault: Fault) -> &'static str {
     match fault {
-        Fault::WordCount =>
-            "not the six words of a request, or seven with its data, nor `width` and a number",
+        Fault::WordCount => "not the six words of a request, or seven with its data",
         Fault::Field(Field::Opcode) => "OPCODE is no decimal number up to 255",
         Fault::Field(Field::Param) => "PARAM is no decimal number up to 255",
         Fault::Field(Field::Size) => "SIZE is no decimal number up to 255",
@@ -37,6 +35,5 @@ fn meaning(fault: Fault) -> &'static str {
         Fault::Field(Field::Address) => "ADDRESS is no hexadecimal number of 32 bits",
         Fault::Field(Field::Mask) => "MASK is no hexadecimal number of 64 bits",
         Fault::Field(Field::Data) => "DATA is no row of hexadecimal byte pairs",
-        Fault::Field(Field::Width) => "WIDTH is no decimal number up to 255",
     }
 }

@@ -1,3 +1,9 @@
-// Request sheets: text that field engineers type, one request or width to a line.
+// Request sheets: text that field engineers type, one request to a line.
+#![tactic(auto)]
+
 pub mod fault;
 pub mod line;
+pub mod lines;
+pub mod numeral;
+mod stretch;
+pub mod words;

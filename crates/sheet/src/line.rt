@@ -1,15 +1,15 @@
-ghost use Rattle.std.specs.Prelude.{◌≡◌, ℕ, ◌^◌, ◌<◌, List, map, IfOk};
+ghost use Rattle.std.specs.Prelude.{◌≡◌, ℕ, List, map, IfOk};
 ghost use Rattle.std.specs.List.{AllByRecursion as All};
 ghost use Rattle.message.specs.Request.{Request};
-ghost use Rattle.text.specs.Words.{Typed, spaced};
-ghost use Rattle.sheet.specs.Line.{small_of, address_of, head_of, request_of, told, is_width, width_by, width_of, request, width, reading, view, line_of};
-ghost use Rattle.sheet.specs.Written.{written, written_width, Fits};
+ghost use Rattle.sheet.specs.Words.{Typed, spaced};
+ghost use Rattle.sheet.specs.Line.{small_of, address_of, head_of, request_of, told, request, reading, view, line_of};
+ghost use Rattle.sheet.specs.Written.{written, Fits};
 
 use crate::fault::{Fault, Field};
+use crate::numeral::{Base, byte_pairs, number};
+use crate::words::words;
 use message::request::RequestHead;
 use std::alloc::{AllocError, Global};
-use text::numeral::{Base, byte_pairs, number};
-use text::words::words;
 
 // A request as a line has it, legal or not.
 #[derive(Drop)]
@@ -22,7 +22,6 @@ pub struct Entry {
 pub enum Line {
     Nothing,
     Request(Entry),
-    Width(u8),
     Unreadable(Fault),
 }
 
@@ -90,40 +89,11 @@ fn read_request(heap: Global, words: &[&[u8]; 6], data: &[u8]) -> Result<Line, A
     })
 }
 
-fn is_width(word: &[u8]) -> bool
-    ensures { result ≡ is_width word.now }
-{
-    word == b"width"
-}
-
-// A width by the word of its number.
-fn width(word: &[u8]) -> Line
-    ensures { view result ≡ width_by (small_of word.now) }
-{
-    match small(word) {
-        Some(width) => Line::Width(width),
-        None => Line::Unreadable(Fault::Field(Field::Width)),
-    }
-}
-
-// The words of a line that begins with `width`.
-fn read_width(words: &[&[u8]]) -> Line
-    ensures { view result ≡ width_of (map (λ x. x.now) words.now) }
-{
-    match words {
-        [_, number] => width(number),
-        _ => Line::Unreadable(Fault::WordCount),
-    }
-}
-
 fn read_words(heap: Global, words: &[&[u8]]) -> Result<Line, AllocError>
     ensures { IfOk result (λ line. view line ≡ reading (map (λ x. x.now) words.now)) }
 {
-    let [first, ..] = words else {
+    if words.is_empty() {
         return Ok(Line::Nothing);
-    };
-    if is_width(first) {
-        return Ok(read_width(words));
     }
     match words.split_first_chunk() {
         Some((head, [])) => read_request(heap, head, &[]),
@@ -137,7 +107,6 @@ pub fn read_line(heap: Global, line: &[u8]) -> Result<Line, AllocError>
     ensures said { IfOk result (λ said. view said ≡ line_of line.now) }
     ensures typed { (ws : List (List ℕ)) → All Typed ws → line.now ≡ spaced ws → IfOk result (λ said. view said ≡ reading ws) }
     ensures written { (q : Request) → Fits q → line.now ≡ written q → IfOk result (λ said. view said ≡ request q) }
-    ensures width { (n : ℕ) → n < 2 ^ 8 → line.now ≡ written_width n → IfOk result (λ said. view said ≡ width n) }
 {
     let words = words(heap, line)?;
     read_words(heap, words.as_slice())

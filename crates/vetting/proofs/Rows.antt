@@ -1,32 +1,49 @@
--- The rows of a sheet, line by line.
-use Rattle.std.proofs.Common.{◌≡◌, ℕ, ◌+◌, ◌<◌, ◌≤◌, List, [], ◌∷◌, ◌++◌, map, length, get_or, drop, Option, sym, ap, ◌∙◌, append_assoc, arith, Bor}
+-- Rows and counts, one line more.
+use Rattle.std.proofs.Common.{◌≡◌, ℕ, suc, ◌+◌, ◌<◌, ◌≤◌, List, [], ◌∷◌, ◌++◌, map, length, get_or, take, fold, Option, sym, refl, ap, ◌∙◌, append_assoc, add-zero, arith, Bor}
 use lib.ListN.{length-map}
-use Rattle.std.proofs.lemmas.List.{append-nil, get_or-map, drop_more, drop_all}
-use Rattle.beat.specs.declared.width.Width.{Width}
+use Rattle.std.proofs.lemmas.List.{append-nil, get_or-map, take_more, take_all, length-take-le}
 use Rattle.sheet.specs.Line.{line_of}
 use Rattle.sheet.proofs.Fields.{absent}
 use Rattle.vetting.specs.declared.address_map.AddressMap.{AddressMap}
+use Rattle.vetting.specs.declared.finding.Finding.{Finding}
 use Rattle.vetting.specs.declared.report.Row.{Row}
-use Rattle.vetting.specs.Finding.{findings_of, width_after}
-use Rattle.vetting.specs.Report.{row, rows_of}
+use Rattle.vetting.specs.declared.report.Tally.{Tally}
+use Rattle.vetting.specs.Finding.{finding_of}
+use Rattle.vetting.specs.Report.{empty, by_row, tally_of, row_of, rows_of}
 
--- a line more, which is held by reference: the rows so far and those of the lines that are left stay all rows
-pub rows_more : (m : AddressMap) (items : List (Bor (List ℕ))) (i : ℕ) (lines : List (List ℕ)) (w w' : Option Width) (old new all : List Row) → i < length items → map (λ x. x.now) items ≡ lines → old ++ rows_of m w (i + 1) (drop i lines) ≡ all → new ≡ old ++ map (row (i + 1)) (findings_of m w (line_of (get_or items i absent).now)) → w' ≡ width_after w (line_of (get_or items i absent).now) → new ++ rows_of m w' (i + 1 + 1) (drop (i + 1) lines) ≡ all
-unfolding rows_of
-rows_more m items i lines w w' old new all lt same so_far noted turned =
-    let line = (get_or items i absent).now in
-    let rest = drop (i + 1) lines in
-    let here : get_or lines i [] ≡ line = ap (λ ls. get_or ls i []) (sym same) ∙ get_or-map (λ x. x.now) items i absent [] lt in
-    let split : drop i lines ≡ line ∷ rest = drop_more lines i [] (omega (arith, ap length same, length-map items (λ x. x.now))) ∙ ap (λ l. l ∷ rest) here in
-    (λ j. noted j ++ rows_of m (turned j) (i + 1 + 1) rest)
-    ∙ append_assoc old (map (row (i + 1)) (findings_of m w (line_of line))) (rows_of m (width_after w (line_of line)) (i + 1 + 1) rest)
-    ∙ ap (λ ls. old ++ rows_of m w (i + 1) ls) (sym split)
-    ∙ so_far
+rows_push : (m : AddressMap) (n : ℕ) (lines : List (List ℕ)) (line : List ℕ) → rows_of m n (lines ++ line ∷ []) ≡ rows_of m n lines ++ row_of (n + length lines) (finding_of m (line_of line))
+rows_push m n [] line =
+    let f = finding_of m (line_of line) in append-nil (row_of n f) ∙ ap (λ k. row_of k f) (sym (add-zero n))
+rows_push m n (l ∷ lines) line =
+    let f = finding_of m (line_of line) in
+    let first = row_of n (finding_of m (line_of l)) in
+    let number : n + 1 + length lines ≡ n + suc (length lines) = omega arith in
+    ap (λ rows. first ++ rows) (rows_push m (n + 1) lines line ∙ ap (λ k. rows_of m (n + 1) lines ++ row_of k f) number)
+    ∙ sym (append_assoc first (rows_of m (n + 1) lines) (row_of (n + suc (length lines)) f))
 
--- no line is left
-pub rows_all : (m : AddressMap) (items : List (Bor (List ℕ))) (i n : ℕ) (lines : List (List ℕ)) (w : Option Width) (rows all : List Row) → length items ≤ i → map (λ x. x.now) items ≡ lines → rows ++ rows_of m w n (drop i lines) ≡ all → rows ≡ all
-unfolding rows_of
-rows_all m items i n lines w rows all le same so_far =
-    sym (append-nil rows)
-    ∙ ap (λ ls. rows ++ rows_of m w n ls) (sym (drop_all i lines (omega (arith, ap length same, length-map items (λ x. x.now)))))
-    ∙ so_far
+rows_more : (m : AddressMap) (lines : List (List ℕ)) (i : ℕ) → i < length lines → rows_of m 1 (take (i + 1) lines) ≡ rows_of m 1 (take i lines) ++ row_of (i + 1) (finding_of m (line_of (get_or lines i [])))
+rows_more m lines i h =
+    let number : 1 + length (take i lines) ≡ i + 1 = omega (arith, length-take-le i lines (omega arith)) in
+    ap (rows_of m 1) (take_more lines i [] h)
+    ∙ rows_push m 1 (take i lines) (get_or lines i [])
+    ∙ ap (λ n. rows_of m 1 (take i lines) ++ row_of n (finding_of m (line_of (get_or lines i [])))) number
+
+-- the rows after the line at i, which is held by reference
+pub row_more : (m : AddressMap) (items : List (Bor (List ℕ))) (i : ℕ) (lines : List (List ℕ)) (old : List Row) (f : Option Finding) → i < length items → map (λ x. x.now) items ≡ lines → old ≡ rows_of m 1 (take i lines) → f ≡ finding_of m (line_of (get_or items i absent).now) → old ++ row_of (i + 1) f ≡ rows_of m 1 (take (i + 1) lines)
+row_more m items i lines old f lt same so_far found =
+    let here : (get_or items i absent).now ≡ get_or lines i [] = sym (get_or-map (λ x. x.now) items i absent [] lt) ∙ ap (λ ls. get_or ls i []) same in
+    (λ j. so_far j ++ row_of (i + 1) ((found ∙ ap (λ line. finding_of m (line_of line)) here) j))
+    ∙ sym (rows_more m lines i (omega (arith, ap length same, length-map items (λ x. x.now))))
+
+-- all lines
+pub rows_all : (m : AddressMap) (items : List (Bor (List ℕ))) (i : ℕ) (lines : List (List ℕ)) → length items ≤ i → map (λ x. x.now) items ≡ lines → rows_of m 1 (take i lines) ≡ rows_of m 1 lines
+rows_all m items i lines le same =
+    ap (rows_of m 1) (take_all i lines (omega (arith, ap length same, length-map items (λ x. x.now))))
+
+folded_append : (t : Tally) (xs ys : List Row) → fold by_row t (xs ++ ys) ≡ fold by_row (fold by_row t xs) ys
+folded_append t [] ys = refl
+folded_append t (x ∷ xs) ys = folded_append (by_row t x) xs ys
+
+-- the counts with a line more
+pub tally_more : (t : Tally) (old row : List Row) → t ≡ tally_of old → fold by_row t row ≡ tally_of (old ++ row)
+tally_more t old row e = ap (λ u. fold by_row u row) e ∙ sym (folded_append empty old row)

@@ -1,14 +1,15 @@
-ghost use Rattle.std.specs.Prelude.{◌≡◌};
+ghost use Rattle.std.specs.Prelude.{◌≡◌, IfOk};
 ghost use Rattle.message.specs.Request.{request};
-ghost use Rattle.vetting.specs.Finding.{verdict_of};
+ghost use Rattle.sheet.specs.Line.{line_of};
+ghost use Rattle.vetting.specs.Finding.{verdict_of, finding_of};
 
 use crate::address_map::{AddressMap, Region};
-use beat::request::RequestBeat;
-use beat::width::Width;
 use message::operation::Operation;
 use message::refusal::Refusal;
 use message::request::RequestHead;
 use sheet::fault::Fault;
+use sheet::line::{Line, read_line};
+use std::alloc::{AllocError, Global};
 
 // A legal request lies in a region, or in none.
 #[derive(Clone, Copy)]
@@ -17,12 +18,10 @@ pub enum Verdict {
     Refused(Refusal),
 }
 
-// What there is to say of a line: its request and then each beat by its index, its width by the number that it gives, or its fault.
+// What there is to say of a line.
 #[derive(Clone, Copy)]
 pub enum Finding {
     Request(RequestHead, Verdict),
-    Width(u8, Result<Width, Refusal>),
-    Beat(Width, usize, RequestBeat),
     Unreadable(Fault),
 }
 
@@ -33,6 +32,20 @@ impl AddressMap {
         match head.check(data) {
             Ok(operation) => Verdict::Legal(operation, self.region(head)),
             Err(refusal) => Verdict::Refused(refusal),
+        }
+    }
+
+    // What there is to say of a line of a sheet, if anything.
+    pub fn vet_line(self, heap: Global, line: &[u8]) -> Result<Option<Finding>, AllocError>
+        ensures { IfOk result (λ finding. finding ≡ finding_of self (line_of line.now)) }
+    {
+        match read_line(heap, line)? {
+            Line::Nothing => Ok(None),
+            Line::Request(entry) => {
+                let verdict = self.vet(entry.head, &entry.data);
+                Ok(Some(Finding::Request(entry.head, verdict)))
+            }
+            Line::Unreadable(fault) => Ok(Some(Finding::Unreadable(fault))),
         }
     }
 }

@@ -1,11 +1,10 @@
-ghost use Rattle.std.specs.Prelude.{◌≡◌, IfOk};
-ghost use Rattle.vetting.specs.Report.{empty, counted, tally_of, Reports};
+ghost use Rattle.std.specs.Prelude.{◌≡◌, [], ◌++◌, IfOk, fold, OnOk};
+ghost use Rattle.vetting.specs.Report.{empty, counted, by_row, row_of, Reports};
 
 use crate::address_map::AddressMap;
 use crate::finding::{Finding, Verdict};
-use crate::progress::Progress;
+use sheet::lines::lines;
 use std::alloc::{AllocError, Global};
-use text::lines::lines;
 
 // How many lines came to what.
 #[derive(Clone, Copy)]
@@ -15,7 +14,7 @@ pub struct Tally {
     pub unreadable: u64,
 }
 
-// A line by its number, with something that there is to say of it.
+// A line by its number, with what there is to say of it.
 #[derive(Clone, Copy)]
 pub struct Row {
     pub line: u64,
@@ -48,33 +47,45 @@ impl Tally {
                 .refused
                 .saturating_add(1),
             Finding::Unreadable(_) => self.unreadable = self.unreadable.saturating_add(1),
-            Finding::Width(_, _) | Finding::Beat(_, _, _) => {}
+        }
+    }
+}
+
+impl Report {
+    fn new(heap: Global) -> Report
+        ensures rows { result.rows.items ≡ [] }
+        ensures tally { result.tally ≡ empty }
+    {
+        Report {
+            rows: Vec::new(heap),
+            tally: Tally::new(),
         }
     }
 
-    fn of(rows: &[Row]) -> Tally
-        ensures { result ≡ tally_of rows.now }
+    // What there is to say of one line more, if anything.
+    fn note(&mut self, line: u64, finding: Option<Finding>) -> Result<(), AllocError>
+        ensures rows { OnOk result (self.new.rows.items ≡ self.old.rows.items ++ row_of line finding) }
+        ensures tally { OnOk result (self.new.tally ≡ fold by_row self.old.tally (row_of line finding)) }
     {
-        let mut tally = Tally::new();
-        for row in rows {
-            tally.count(row.finding);
+        if let Some(finding) = finding {
+            self.rows.push(Row { line, finding })?;
+            self.tally.count(finding);
         }
-        tally
+        Ok(())
     }
 }
 
 impl AddressMap {
-    // A whole sheet: what there is to say of each line, and the counts of it.
+    // A whole sheet: a row for each line of which there is something to say, and the counts of the rows.
     pub fn vet_sheet(self, heap: Global, sheet: &[u8]) -> Result<Report, AllocError>
         ensures { IfOk result (λ report. Reports self sheet.now report) }
     {
         let lines = lines(heap, sheet)?;
-        let mut progress = Progress::new(heap);
+        let mut report = Report::new(heap);
         for (i, line) in lines.iter().enumerate() {
-            progress.note_line(heap, self, i as u64 + 1, line)?;
+            let finding = self.vet_line(heap, line)?;
+            report.note(i as u64 + 1, finding)?;
         }
-        let rows = progress.rows;
-        let tally = Tally::of(&rows);
-        Ok(Report { rows, tally })
+        Ok(report)
     }
 }

@@ -1,5 +1,5 @@
 use Rattle.std.proofs.Common.{sym, arith}
-use Rattle.text.proofs.Numerals.{number_bound}
+use Rattle.sheet.proofs.Positions.{number_bound}
 use Rattle.sheet.proofs.line.address.Goals as goal
 
 pub overflow-cast-result : goal.overflow-cast-result

@@ -1,12 +1,12 @@
 use Rattle.std.proofs.Common.{◌≡◌, IfOk, ap, ◌∙◌, rules}
-use Rattle.text.proofs.Spaced.{words_spaced}
 use Rattle.sheet.specs.Line.{reading, line_of, view}
 use Rattle.sheet.proofs.Fields.{says}
-use Rattle.sheet.proofs.Writing.{written_read, width_read}
+use Rattle.sheet.proofs.Spaced.{words_spaced}
+use Rattle.sheet.proofs.Writing.{written_read}
 use Rattle.sheet.proofs.line.read_line.Goals as goal
 
 pub returns-in-err-words : goal.returns-in-err-words
-returns-in-err-words c = record { said = search rules; typed = search rules; written = search rules; width = search rules }
+returns-in-err-words c = record { said = search rules; typed = search rules; written = search rules }
 
 pub returns : goal.returns
 returns c =
@@ -17,5 +17,4 @@ returns c =
       said = said;
       typed = λ ws h e. says r (ap line_of e ∙ ap reading (words_spaced ws h)) said;
       written = λ q f e. says r (ap line_of e ∙ written_read q f) said;
-      width = λ n lt e. says r (ap line_of e ∙ width_read n lt) said;
     }

@@ -8,8 +8,8 @@ pub returns : goal.returns
 returns c =
     let s = c.args.self in
     let q = c.args.head in
-    let e = c.lies-in.ensures in
+    let e = c.lies_in.ensures in
     record {
       value = e;
-      bytes = λ whole. Decides-at c.lies-in.result (lies_in s.base s.mask q) e (lies_whole s.base s.mask (omega arith) (omega arith) q (omega arith) whole);
+      bytes = λ whole. Decides-at c.lies_in.result (lies_in s.base s.mask q) e (lies_whole s.base s.mask (omega arith) (omega arith) q (omega arith) whole);
     }

@@ -9,6 +9,6 @@ returns c =
     let a = c.args.self in
     let b = c.args.other in
     record {
-      value = c.bases-agree.ensures;
-      meet = Decides-at c.bases-agree.result (overlap a.base a.mask b.base b.mask) c.bases-agree.ensures (overlap_meets a.base a.mask b.base b.mask (omega arith) (omega arith) (omega arith) (omega arith) a.apart b.apart);
+      value = c.bases_agree.ensures;
+      meet = Decides-at c.bases_agree.result (overlap a.base a.mask b.base b.mask) c.bases_agree.ensures (overlap_meets a.base a.mask b.base b.mask (omega arith) (omega arith) (omega arith) (omega arith) a.apart b.apart);
     }

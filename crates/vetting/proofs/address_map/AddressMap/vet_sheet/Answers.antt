@@ -1,21 +1,26 @@
-use Rattle.std.proofs.Common.{◌+◌, None, vec_items, ap, ◌∙◌, arith}
-use Rattle.text.specs.Lines.{lines_of}
-use Rattle.vetting.specs.Report.{rows_of, tally_of}
-use Rattle.vetting.proofs.Rows.{rows_more, rows_all}
+use Rattle.std.proofs.Common.{◌+◌, vec_items, sym, ap, ◌∙◌, arith}
+use Rattle.sheet.specs.Lines.{lines_of}
+use Rattle.vetting.specs.Report.{row_of, tally_of}
+use Rattle.vetting.proofs.Rows.{row_more, rows_all, tally_more}
 use Rattle.vetting.proofs.address_map.AddressMap.vet_sheet.Goals as goal
 
 pub loop-i-preserved : goal.loop-i-preserved
 loop-i-preserved c =
-    let lines = lines_of c.args.sheet.now in
-    let noted = c.in-ok-note-line.ensures in (
+    let items = c.deref-line-items.result.now in
+    let i = c.loop-i.i in
+    let old = vec_items c.loop-i.report.rows in
+    let found = c.in-ok-finding.finding in
+    let noted = c.in-ok-note.ensures in
+    let more = row_more c.args.self items i (lines_of c.args.sheet.now) old found (omega arith) c.loop-i.invariant.0 c.loop-i.invariant.1 c.in-ok-finding.ensures in (
       c.loop-i.invariant.0,
-      rows_more c.args.self c.deref-line-items.result.now c.loop-i.i lines c.loop-i.progress.width c.note-line.new.self.width (vec_items c.loop-i.progress.rows) (vec_items c.note-line.new.self.rows) (rows_of c.args.self None 1 lines) (omega arith) c.loop-i.invariant.0 c.loop-i.invariant.1 noted.rows noted.width,
+      noted.rows ∙ more,
+      noted.tally ∙ tally_more c.loop-i.report.tally old (row_of (i + 1) found) c.loop-i.invariant.2 ∙ ap tally_of (sym noted.rows),
     )
 
 pub returns : goal.returns
 returns c =
-    let lines = lines_of c.args.sheet.now in
+    let items = c.deref-line-items.result.now in
     record {
-      rows = rows_all c.args.self c.deref-line-items.result.now c.loop-i.i (c.loop-i.i + 1) lines c.loop-i.progress.width (vec_items c.loop-i.progress.rows) (rows_of c.args.self None 1 lines) (omega arith) c.loop-i.invariant.0 c.loop-i.invariant.1;
-      counts = c.of-tally.ensures ∙ ap tally_of c.deref.ensures.value;
+      rows = c.loop-i.invariant.1 ∙ rows_all c.args.self items c.loop-i.i (lines_of c.args.sheet.now) (omega arith) c.loop-i.invariant.0;
+      counts = c.loop-i.invariant.2;
     }

@@ -1,4 +1,0 @@
-mod Positions
-mod Cuts
-pub mod Spaced
-pub mod Numerals

@@ -1,4 +1,0 @@
-pub mod Stretch
-pub mod Lines
-pub mod Words
-pub mod Numeral
