@@ -5,13 +5,13 @@ use Rattle.sheet.proofs.Spaced.{words_spaced}
 use Rattle.sheet.proofs.Writing.{written_read}
 use Rattle.sheet.proofs.line.read_line.Goals as goal
 
-pub returns-in-err-words : goal.returns-in-err-words
-returns-in-err-words c = record { said = search rules; typed = search rules; written = search rules }
+pub returns-in_err-words : goal.returns-in_err-words
+returns-in_err-words c = record { said = search rules; typed = search rules; written = search rules }
 
 pub returns : goal.returns
 returns c =
     let line = c.args.line.now in
-    let r = c.read-words.result in
+    let r = c.read_words.result in
     let said : IfOk r (λ s. view s ≡ line_of line) = search rules in
     record {
       said = said;

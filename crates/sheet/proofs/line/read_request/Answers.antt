@@ -10,7 +10,7 @@ returns-in-Err c = ap told (request_is _ c.args.data.now c.in-Err.ensures refl)
 
 pub returns : goal.returns
 returns c =
-    let read = c.in-ok-data.ensures in
+    let read = c.in_ok-data.ensures in
     elim c.match-branch-2.branch [
       | in-Some w ↦ ap view w.result-is ∙ ap told (request_is _ _ c.in-Ok.ensures (sym (ap (option_map vec_items) w.in-Some.is) ∙ read))
       | in-None w ↦ ap view w.result-is ∙ ap told (request_is _ _ c.in-Ok.ensures (sym (ap (option_map vec_items) w.in-None.is) ∙ read))

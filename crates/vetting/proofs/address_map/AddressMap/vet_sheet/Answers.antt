@@ -9,9 +9,9 @@ loop-i-preserved c =
     let items = c.deref-line-items.result.now in
     let i = c.loop-i.i in
     let old = vec_items c.loop-i.report.rows in
-    let found = c.in-ok-finding.finding in
-    let noted = c.in-ok-note.ensures in
-    let more = row_more c.args.self items i (lines_of c.args.sheet.now) old found (omega arith) c.loop-i.invariant.0 c.loop-i.invariant.1 c.in-ok-finding.ensures in (
+    let found = c.in_ok-finding.finding in
+    let noted = c.in_ok-note.ensures in
+    let more = row_more c.args.self items i (lines_of c.args.sheet.now) old found (omega arith) c.loop-i.invariant.0 c.loop-i.invariant.1 c.in_ok-finding.ensures in (
       c.loop-i.invariant.0,
       noted.rows ∙ more,
       noted.tally ∙ tally_more c.loop-i.report.tally old (row_of (i + 1) found) c.loop-i.invariant.2 ∙ ap tally_of (sym noted.rows),
