@@ -8,6 +8,7 @@ use Rattle.message.specs.declared.refusal.Refusal.{Refusal}
 use Rattle.message.specs.declared.refusal.Refusal.TheVariants as no
 use Rattle.message.specs.declared.response.ResponseHead.{ResponseHead}
 use Rattle.message.specs.declared.response.ResponseOpcode.{ResponseOpcode}
+use Rattle.message.specs.declared.response.ResponseOpcode.TheVariants.{AccessAck, AccessAckData, HintAck}
 use Rattle.message.specs.Response.{Response, WholeResponse, response_of, response_placed, response_has_data, response_carries_data, response_length}
 use Rattle.message.proofs.Judged.{accepted_before, accepted_by}
 use Rattle.message.proofs.Responding.{response_placed_parts}
@@ -55,8 +56,14 @@ fit first b s room k h =
       roomy = subst (λ x. response_length x b.size ≤ room) is (leb-true (response_length p b.size) room r.0);
     }
 
+-- how many bytes of data a response carries, by whether it has any
+pub length_by : (k : ResponseOpcode) (size : ℕ) → response_length k size ≡ cond (response_has_data k) (2 ^ size) 0
+length_by AccessAck size = refl
+length_by AccessAckData size = refl
+length_by HintAck size = refl
+
 pub data_room : (k : ResponseOpcode) (size room : ℕ) → response_has_data k ≡ true → response_length k size ≤ room → 2 ^ size ≤ room
-data_room k size room d le = subst (λ n. n ≤ room) (cond-true (response_has_data k) (2 ^ size) 0 d) le
+data_room k size room d le = subst (λ n. n ≤ room) (length_by k size ∙ cond-true (response_has_data k) (2 ^ size) 0 d) le
 
 pub carrying : (opcode param : ℕ) (k : ResponseOpcode) → response_of opcode param ≡ Ok k → response_carries_data opcode param ≡ response_has_data k
 carrying opcode param k e = ap (λ r. elim r [ Ok p ↦ response_has_data p | Err x ↦ false ]) e
@@ -132,8 +139,8 @@ pub whole_aligned : (k : ResponseOpcode) (a : Response) → WholeResponse k a �
 whole_aligned k a l = ap (λ n. n % 2 ^ a.head.size) l.multiple.1 ∙ mul-mod_left l.multiple.0 (2 ^ a.head.size)
 
 pub whole_data : (k : ResponseOpcode) (a : Response) (d : Bool) → response_has_data k ≡ d → WholeResponse k a → (length a.bytes ≡ 0 → ⊥) → length a.bytes ≡ 2 ^ a.head.size
-whole_data k a true e l some = l.whole ∙ ap (λ t. cond t (2 ^ a.head.size) 0) e
-whole_data k a false e l some = absurd (some (l.whole ∙ ap (λ t. cond t (2 ^ a.head.size) 0) e))
+whole_data k a true e l some = l.whole ∙ length_by k a.head.size ∙ ap (λ t. cond t (2 ^ a.head.size) 0) e
+whole_data k a false e l some = absurd (some (l.whole ∙ length_by k a.head.size ∙ ap (λ t. cond t (2 ^ a.head.size) 0) e))
 
 -- zeros in the lanes
 number_zeros : (xs : List ℕ) → Each1 (λ x. x ≡ 0) xs → number_l 256 xs ≡ 0

@@ -3,14 +3,14 @@ use Rattle.message.proofs.Judged.{placed_parts}
 use Rattle.beat.specs.Request.{judged}
 use Rattle.beat.proofs.request.judge.Goals as goal
 
-pub returns-in-err-operation : goal.returns-in-err-operation
+pub returns-in_err-operation : goal.returns-in_err-operation
 unfolding judged
-returns-in-err-operation c = search rules
+returns-in_err-operation c = search rules
 
 pub admit-requires : goal.admit-requires
 admit-requires c =
     let b = c.args.beat in
-    let p = placed_parts b.opcode b.param b.size b.address _ (sym c.in-ok-operation.ensures) in
+    let p = placed_parts b.opcode b.param b.size b.address _ (sym c.in_ok-operation.ensures) in
     record { size = p.1; aligned = p.2 }
 
 pub returns : goal.returns

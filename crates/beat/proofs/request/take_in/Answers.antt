@@ -22,12 +22,12 @@ joined-mask-requires c =
       some = e.some;
     }
 
-pub invariant-of-result : goal.invariant-of-result
-invariant-of-result c =
+pub invariant_of-result : goal.invariant_of-result
+invariant_of-result c =
     let e = c.of-lanes.ensures in
     let d = c.requires.due in
     let k = per_beat (width_bytes c.args.width) c.args.head.size in
     let s = shape c.args.width c.args.head.size c.args.head.address d.size d.aligned in
-    let more : c.args.come + 1 < beat_count true (width_bytes c.args.width) c.args.head.size = omega (arith, c.beat-count.ensures, d.due) in
+    let more : c.args.come + 1 < beat_count true (width_bytes c.args.width) c.args.head.size = omega (arith, c.beat_count.ensures, d.due) in
     let low : c.joined-mask.result < 2 ^ ((c.args.come + 1) * k) = grown (c.args.beat.mask / 2 ^ c.of-lanes.result.first) c.of-lanes.result.count k c.args.come c.args.head.mask c.joined-mask.result e.count d.low c.joined-mask.ensures in
-    (d.size, (d.aligned, (d.carries, (more, (low, tt)))))
+    record { size = d.size; aligned = d.aligned; carries = d.carries; due = more; low = low }

@@ -3,14 +3,14 @@ use Rattle.message.proofs.Responding.{response_placed_size}
 use Rattle.beat.specs.Response.{judged}
 use Rattle.beat.proofs.response.judge.Goals as goal
 
-pub returns-in-err-opcode : goal.returns-in-err-opcode
+pub returns-in_err-opcode : goal.returns-in_err-opcode
 unfolding judged
-returns-in-err-opcode c = search rules
+returns-in_err-opcode c = search rules
 
 pub admit-requires : goal.admit-requires
 admit-requires c =
     let b = c.args.beat in
-    response_placed_size b.opcode b.param b.size c.args.beside.address _ (sym c.in-ok-opcode.ensures)
+    response_placed_size b.opcode b.param b.size c.args.beside.address _ (sym c.in_ok-opcode.ensures)
 
 pub returns : goal.returns
 unfolding judged

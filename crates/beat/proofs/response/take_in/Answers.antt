@@ -10,8 +10,8 @@ join-requires c =
     let s = shape c.args.width c.args.head.size c.args.head.address c.requires.due.size c.requires.due.aligned in
     record { fits = e.fits; within = omega (arith, beat_ends s c.args.come c.of-lanes.result.count c.requires.due.due e.count, c.requires.room) }
 
-pub invariant-of-result : goal.invariant-of-result
-invariant-of-result c =
+pub invariant_of-result : goal.invariant_of-result
+invariant_of-result c =
     let d = c.requires.due in
-    let more : c.args.come + 1 < beat_count true (width_bytes c.args.width) c.args.head.size = omega (arith, c.beat-count.ensures, d.due) in
-    (d.size, (d.aligned, (d.carries, (more, tt))))
+    let more : c.args.come + 1 < beat_count true (width_bytes c.args.width) c.args.head.size = omega (arith, c.beat_count.ensures, d.due) in
+    record { size = d.size; aligned = d.aligned; carries = d.carries; due = more }
