@@ -33,16 +33,6 @@ fn a_line_is_read_as_its_request(rt: HostRuntime) -> Result<(), Fail> {
 }
 
 #[test]
-fn a_width_is_read_as_its_number(rt: HostRuntime) -> Result<(), Fail> {
-    let heap = rt.alloc();
-    let eight = read_line(heap, b"width\t008 # bytes")?;
-    assert!(rt; matches!(eight, Line::Width(8)));
-    let wide = read_line(heap, b"width 256")?;
-    assert!(rt; matches!(wide, Line::Unreadable(Fault::Field(Field::Width))));
-    Ok(())
-}
-
-#[test]
 fn the_first_fault_of_a_line_is_told(rt: HostRuntime) -> Result<(), Fail> {
     let heap = rt.alloc();
     let short = read_line(heap, b"x 0 1 7 40")?;

@@ -162,8 +162,8 @@ module _ (base mask : ℕ) (b : base < 2 ^ 32) (m : mask < 2 ^ 32) (q : RequestH
         (same_outside a base mask m).1 (λ i lt free. ⊎_elim (λ l. absurd (omega (arith, set i l))) (λ ge. high_same i ge ∙ same i lt free) (cases_lt i s)),
       )
 
-  whole-inside : EveryByte base mask q → lies_in base mask q ≡ true
-  whole-inside h =
+  whole_inside : EveryByte base mask q → lies_in base mask q ≡ true
+  whole_inside h =
       let s = q.size in
       let first = h q.address (omega arith) (omega (arith, pow_pos s)) in
       let same : SameDigits mask q.address base = (same_outside q.address base mask m).0 first.1 in
@@ -179,4 +179,4 @@ module _ (base mask : ℕ) (b : base < 2 ^ 32) (m : mask < 2 ^ 32) (q : RequestH
       and_from (contains base mask q.address) (eqb (mask % 2 ^ s) (2 ^ s - 1)) first.1 ((low_digits_set mask s).1 set)
 
   pub lies_whole : q.address < 2 ^ 32 → q.address % 2 ^ q.size ≡ 0 → Decides (lies_in base mask q) (EveryByte base mask q)
-  lies_whole below whole = (inside below whole, whole-inside)
+  lies_whole below whole = (inside below whole, whole_inside)

@@ -5,7 +5,6 @@ use Rattle.std.proofs.lemmas.Result.{IfOk-weaker}
 use Rattle.message.specs.declared.request.RequestHead.{RequestHead}
 use Rattle.sheet.specs.declared.fault.Fault.TheVariants as fault
 use Rattle.sheet.specs.declared.fault.Field.{Field}
-use Rattle.sheet.specs.declared.fault.Field.TheVariants as field
 use Rattle.sheet.specs.declared.line.Line.{Line}
 use Rattle.sheet.specs.Numeral.{bytes_of}
 use Rattle.sheet.specs.Line.{small_of, address_of, mask_of, word, head_by, head_of, request_by, request_of, told, Reading, reading, nothing, unreadable, view}

@@ -119,12 +119,12 @@ mapped_same (Some more) = refl
 pub number_bound : (base : Base) (limit : ℕ) (word : List ℕ) (n : ℕ) → number_of base limit word ≡ Some n → n ≤ limit
 unfolding number_of
 number_bound base limit [] n e = absurd (let z : ◌≡◌ {A = ℕ} 0 1 = cc in omega arith)
-number_bound base limit (b ∷ bs) n e = of-digits (digits_of base (b ∷ bs)) e
+number_bound base limit (b ∷ bs) n e = of_digits (digits_of base (b ∷ bs)) e
   where
-    of-value : (m : ℕ) (t : Bool) → leb m limit ≡ t → cond t (Some m) None ≡ Some n → n ≤ limit
-    of-value m true l e = let same : m ≡ n = cc in omega (arith, leb-true _ _ l)
-    of-value m false l e = absurd (let z : ◌≡◌ {A = ℕ} 0 1 = cc in omega arith)
+    of_value : (m : ℕ) (t : Bool) → leb m limit ≡ t → cond t (Some m) None ≡ Some n → n ≤ limit
+    of_value m true l e = let same : m ≡ n = cc in omega (arith, leb-true _ _ l)
+    of_value m false l e = absurd (let z : ◌≡◌ {A = ℕ} 0 1 = cc in omega arith)
 
-    of-digits : (o : Option (List ℕ)) → and_then o (λ ds. at_most limit (value base ds)) ≡ Some n → n ≤ limit
-    of-digits None e = absurd (let z : ◌≡◌ {A = ℕ} 0 1 = cc in omega arith)
-    of-digits (Some ds) e = of-value (value base ds) (leb (value base ds) limit) refl e
+    of_digits : (o : Option (List ℕ)) → and_then o (λ ds. at_most limit (value base ds)) ≡ Some n → n ≤ limit
+    of_digits None e = absurd (let z : ◌≡◌ {A = ℕ} 0 1 = cc in omega arith)
+    of_digits (Some ds) e = of_value (value base ds) (leb (value base ds) limit) refl e

@@ -12,19 +12,19 @@ use Rattle.wire.specs.Rules.{Rules, Read}
 use Rattle.wire.specs.Joins.{unread, Ends, EndsList, Joins, Waits, Reached}
 
 module _ {B H K M : Type 0} (ch : Rules B H K M) where
-  next-taken : (bs : List B) (i : ℕ) (c : B) → i < length bs → c ≡ get_or bs i c → take i bs ++ c ∷ [] ≡ take (i + 1) bs
-  next-taken bs i c lt is = ap (λ x. take i bs ++ x ∷ []) is ∙ sym (take_more bs i c lt)
+  next_taken : (bs : List B) (i : ℕ) (c : B) → i < length bs → c ≡ get_or bs i c → take i bs ++ c ∷ [] ≡ take (i + 1) bs
+  next_taken bs i c lt is = ap (λ x. take i bs ++ x ∷ []) is ∙ sym (take_more bs i c lt)
 
   -- beat i is the last one
   pub ends_whole : {U : Type 0} (waits : Waits ch U) (w : Width) (k : K) (b : B) (bs : List B) (i : ℕ) (c : B) (h : H) (xs ys : List ℕ) → i < length bs → c ≡ get_or bs i c → Reached ch waits w k b (take i bs ++ c ∷ []) xs (Whole h) ys → Ends ch w k b bs xs (Ok (Some (record { head = h; beats = i + 1 }))) ys
   ends_whole waits w k b bs i c h xs ys lt is r =
-      let all = next-taken bs i c lt is in
+      let all = next_taken bs i c lt is in
       let long : length (take (i + 1) bs) ≡ i + 1 = length-take-le (i + 1) bs (omega arith) in
       (omega (arith, r.0, ap length all, long), omega arith, subst (λ cs. Read ch w k b cs xs ys) all r.1, r.2 ∙ ap (ch.joined_head w k b) all)
 
   -- or one more is due
   pub goes_on : {U : Type 0} (waits : Waits ch U) (w : Width) (k : K) (b : B) (bs : List B) (i : ℕ) (c : B) (u : U) (xs ys : List ℕ) → i < length bs → c ≡ get_or bs i c → waits w k b (take i bs ++ c ∷ []) xs u ys → waits w k b (take (i + 1) bs) xs u ys
-  goes_on waits w k b bs i c u xs ys lt is h = subst (λ cs. waits w k b cs xs u ys) (next-taken bs i c lt is) h
+  goes_on waits w k b bs i c u xs ys lt is h = subst (λ cs. waits w k b cs xs u ys) (next_taken bs i c lt is) h
 
   -- or it is refused
   pub ends_refused : (w : Width) (k : K) (b : B) (bs : List B) (i : ℕ) (c : B) (e : Refusal) (xs ys zs : List ℕ) → i < length bs → c ≡ get_or bs i c → Read ch w k b (take i bs) xs ys × (length (take i bs) < ch.due w k b) → ch.next w b c (length xs) ≡ Err e → zs ≡ ys → Ends ch w k b bs xs (Err (record { beat = i; refusal = e })) zs

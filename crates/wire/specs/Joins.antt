@@ -1,5 +1,5 @@
 -- Lists of beats, and the messages that they are.
-use Rattle.std.specs.Prelude.{◌≡◌, ℕ, ◌+◌, ◌<◌, ◌≤◌, List, [], ◌∷◌, ◌++◌, length, take, drop, Some, None, Ok, Err, Option, Result, slice_index_or}
+use Rattle.std.specs.Prelude.{◌≡◌, ℕ, ◌<◌, ◌≤◌, List, [], ◌∷◌, ◌++◌, length, take, drop, Some, None, Ok, Err, Option, Result, slice_index_or}
 use Rattle.std.specs.Simd.Lanes.{Each1}
 use Rattle.message.specs.declared.refusal.Refusal.{Refusal}
 use Rattle.beat.specs.declared.begun.Begun.{Begun}

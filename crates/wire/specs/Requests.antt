@@ -130,14 +130,14 @@ first_read w o b xs g ys long first j false d f =
 
 -- a burst that waits, and its next beat
 module _ (w : Width) (o : Operation) (b : RequestBeat) (bs : List RequestBeat) (xs : List ℕ) (u : Burst) (ys : List ℕ) (h : HalfRead w o b bs xs u ys) (c : RequestBeat) where
-  burst-judged : judged (Some u.head) u.width c (length ys) ≡ judged (Some (head_of b 0)) w c (length xs)
-  burst-judged =
+  burst_judged : judged (Some u.head) u.width c (length ys) ≡ judged (Some (head_of b 0)) w c (length xs)
+  burst_judged =
       (λ i. judged (Some (h.head i)) (h.width i) c (h.long i)) ∙ ap (λ m. judged (Some m) w c (length xs)) (message_is w o b h.carries bs) ∙ judged_any w b c (mask_of w b bs) (length xs)
 
   pub burst_on : (g : Begun RequestHead Burst) (zs : List ℕ) → length zs ≡ length ys → Went u c ys (Ok g) zs → More w o b (bs ++ c ∷ []) xs g zs
   burst_on g zs long went =
       let parts = carried_on (λ e. (e, u)) (judged (Some u.head) u.width c (length ys)) g ys zs (λ p. Taken u.width u.head u.come c ys g zs) went in
-      let j : judged (Some (head_of b 0)) w c (length xs) ≡ Ok parts.0 = sym burst-judged ∙ parts.1 in
+      let j : judged (Some (head_of b 0)) w c (length xs) ≡ Ok parts.0 = sym burst_judged ∙ parts.1 in
       let same : parts.0 ≡ o = same_operation w b c (length xs) o parts.0 (fit None w b (length xs) o h.read.begun).operation j in
       let at = h.head ∙ message_is w o b h.carries bs in
       read_on w o b h.carries bs c xs ys zs g (long ∙ h.long) h.read (j ∙ ap Ok same)
@@ -147,7 +147,7 @@ module _ (w : Width) (o : Operation) (b : RequestBeat) (bs : List RequestBeat) (
   burst_stops e v zs went =
       let r : Result (Begun RequestHead Burst) (Refusal × Burst) = Err (e, v) in
       let parts = stopped (λ x. (x, u)) (judged (Some u.head) u.width c (length ys)) r (e, v) ys zs (λ p. ⊥) (λ p x. x) refl went in
-      (sym burst-judged ∙ parts.1 ∙ ap Err (sym (ap (λ x. x.0) parts.2)), parts.3)
+      (sym burst_judged ∙ parts.1 ∙ ap Err (sym (ap (λ x. x.0) parts.2)), parts.3)
 
 -- the first beat
 pub begun_on : (n : ℕ) (w : Width) (b : RequestBeat) (xs : List ℕ) (g : Begun RequestHead Burst) (ys : List ℕ) → length ys ≡ length xs → width_of n ≡ Ok w → Began n b xs (Ok g) ys → (o : Operation) × (judged None w b (length xs) ≡ Ok o) × More w o b (b ∷ []) xs g ys

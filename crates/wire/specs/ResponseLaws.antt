@@ -20,7 +20,7 @@ use Rattle.beat.specs.Lanes.{per_beat, first_lane, beat_count, beat_bytes, lane_
 use Rattle.beat.specs.Response.{sent_bytes, head_of, heard, agree, same_head, corrupt_fits, judged}
 use Rattle.beat.specs.Width.{width_bytes}
 use Rattle.beat.proofs.Digits.{unpack_pack}
-use Rattle.beat.proofs.Responses.{Fit, fit, same_fields, agreed, whole_aligned}
+use Rattle.beat.proofs.Responses.{Fit, fit, same_fields, agreed, whole_aligned, length_by}
 use Rattle.beat.proofs.Widths.{Shape, shape}
 use Rattle.wire.specs.Beats.{payload, HoldBytes}
 use Rattle.wire.specs.Rules.{Read, Source, Accepted, cut_from}
@@ -91,26 +91,26 @@ module _ (w : Width) (k : ResponseOpcode) (b : Beat) (bs : List Beat) (xs ys : L
   abbrev lanes_heard : List ℕ
   lanes_heard = map (λ c. heard c.0) (b ∷ bs)
 
-  heads-all : All (Heads k (head_of b.0 b.1)) (b ∷ bs)
-  heads-all =
+  heads_all : All (Heads k (head_of b.0 b.1)) (b ∷ bs)
+  heads_all =
       All-weaker (λ c. judged (Some (head_of b.0 b.1)) c.0 c.1 (length xs) ≡ Ok k) (Heads k (head_of b.0 b.1)) (λ c j. heads_fit k b c (length xs) j) (b ∷ bs) r.accepted
 
-  whole-beats : response_has_data k ≡ true → length lanes_heard * per_beat (width_bytes w) b.0.size ≡ 2 ^ b.0.size
-  whole-beats d =
+  whole_beats : response_has_data k ≡ true → length lanes_heard * per_beat (width_bytes w) b.0.size ≡ 2 ^ b.0.size
+  whole_beats d =
       ap (λ n. n * per_beat (width_bytes w) b.0.size) (length-map (b ∷ bs) (λ c. heard c.0) ∙ all ∙ ap (λ t. beat_count t (width_bytes w) b.0.size) d) ∙ lies.whole
 
-  bytes-long : (d : Bool) → response_has_data k ≡ d → length (bytes_of w k b (b ∷ bs)) ≡ response_length k b.0.size
-  bytes-long true d =
-      ap length (cond-true (response_has_data k) _ [] d) ∙ payload_length (first_lane (width_bytes w) b.1.address) (per_beat (width_bytes w) b.0.size) lanes_heard ∙ whole-beats d ∙ sym (cond-true (response_has_data k) (2 ^ b.0.size) 0 d)
-  bytes-long false d = ap length (cond-false (response_has_data k) _ [] d) ∙ sym (cond-false (response_has_data k) (2 ^ b.0.size) 0 d)
+  bytes_long : (d : Bool) → response_has_data k ≡ d → length (bytes_of w k b (b ∷ bs)) ≡ response_length k b.0.size
+  bytes_long true d =
+      ap length (cond-true (response_has_data k) _ [] d) ∙ payload_length (first_lane (width_bytes w) b.1.address) (per_beat (width_bytes w) b.0.size) lanes_heard ∙ whole_beats d ∙ sym (length_by k b.0.size ∙ cond-true (response_has_data k) (2 ^ b.0.size) 0 d)
+  bytes_long false d = ap length (cond-false (response_has_data k) _ [] d) ∙ sym (length_by k b.0.size ∙ cond-false (response_has_data k) (2 ^ b.0.size) 0 d)
 
-  bytes-zeros : (d : Bool) → response_has_data k ≡ d → b.0.denied ≡ true → bytes_of w k b (b ∷ bs) ≡ replicate (length (bytes_of w k b (b ∷ bs))) 0
-  bytes-zeros true d denied =
+  bytes_zeros : (d : Bool) → response_has_data k ≡ d → b.0.denied ≡ true → bytes_of w k b (b ∷ bs) ≡ replicate (length (bytes_of w k b (b ∷ bs))) 0
+  bytes_zeros true d denied =
       let f = first_lane (width_bytes w) b.1.address in
       let n = per_beat (width_bytes w) b.0.size in
       let is = cond-true (response_has_data k) _ [] d in
-      is ∙ zero_payload f n lanes_heard (heard_zeros k (head_of b.0 b.1) (b ∷ bs) denied heads-all) ∙ ap (λ m. replicate m 0) (sym (ap length is ∙ payload_length f n lanes_heard))
-  bytes-zeros false d denied =
+      is ∙ zero_payload f n lanes_heard (heard_zeros k (head_of b.0 b.1) (b ∷ bs) denied heads_all) ∙ ap (λ m. replicate m 0) (sym (ap length is ∙ payload_length f n lanes_heard))
+  bytes_zeros false d denied =
       let is = cond-false (response_has_data k) _ [] d in
       is ∙ ap (λ m. replicate m 0) {x = 0} (sym (ap length is))
 
@@ -124,9 +124,9 @@ module _ (w : Width) (k : ResponseOpcode) (b : Beat) (bs : List Beat) (xs ys : L
               opcode = first.opcode;
               size = first.size;
               multiple = (address / 2 ^ size, omega (arith, div-add-mod' address (2 ^ size), first.aligned));
-              whole = bytes-long (response_has_data k) refl;
+              whole = bytes_long (response_has_data k) refl;
             };
-        zeros = bytes-zeros (response_has_data k) refl;
+        zeros = bytes_zeros (response_has_data k) refl;
         unblamed = λ e. cond-false b.0.denied b.1.denial not_denied e;
       }
 
@@ -136,11 +136,11 @@ module _ (w : Width) (k : ResponseOpcode) (b : Beat) (bs : List Beat) (xs ys : L
       let n = per_beat (width_bytes w) b.0.size in
       record {
         count = all;
-        heads = heads-all;
+        heads = heads_all;
         denial = λ e. sym (cond-true b.0.denied b.1.denial not_denied e);
         bytes = λ d e.
             held f n 0 (map (λ c. c.0.lanes) (b ∷ bs)) (bytes_of w k b (b ∷ bs))
-            (ap (λ m. drop m (bytes_of w k b (b ∷ bs))) (zero-mul n) ∙ cond-true (response_has_data k) _ [] d ∙ ap (payload f n) (heard_lanes k (head_of b.0 b.1) (b ∷ bs) e heads-all));
+            (ap (λ m. drop m (bytes_of w k b (b ∷ bs))) (zero-mul n) ∙ cond-true (response_has_data k) _ [] d ∙ ap (payload f n) (heard_lanes k (head_of b.0 b.1) (b ∷ bs) e heads_all));
       }
 
   pub sound : Source response_rules w k b (b ∷ bs)
@@ -148,12 +148,12 @@ module _ (w : Width) (k : ResponseOpcode) (b : Beat) (bs : List Beat) (xs ys : L
 
 -- the beats of a legal response are not refused, and bring it
 module _ (w : Width) (k : ResponseOpcode) (a : Response) (l : LegalResponse k a) (room : ℕ) (roomy : length a.bytes ≤ room) where
-  lies-there : Shape (width_bytes w) a.head.size a.head.address
-  lies-there = shape w a.head.size a.head.address l.whole.size (whole_aligned k a l.whole)
+  lies_there : Shape (width_bytes w) a.head.size a.head.address
+  lies_there = shape w a.head.size a.head.address l.whole.size (whole_aligned k a l.whole)
 
-  admitted-one : (b c : Beat) → Heads k a.head b → Heads k a.head c → judged (Some (head_of b.0 b.1)) c.0 c.1 room ≡ Ok k
+  admitted_one : (b c : Beat) → Heads k a.head b → Heads k a.head c → judged (Some (head_of b.0 b.1)) c.0 c.1 room ≡ Ok k
   unfolding judged
-  admitted-one b c eb ec =
+  admitted_one b c eb ec =
       let place : response_placed c.0.opcode c.0.param c.0.size c.1.address ≡ Ok k = (λ i. response_placed (ec.opcode i) (ec.param i) (ec.size i) (ec.address i)) ∙ whole_placed a k l.whole in
       let same_opcode = eq-eqb b.0.opcode c.0.opcode (eb.opcode ∙ sym ec.opcode) in
       let same-param = eq-eqb b.0.param c.0.param (eb.param ∙ sym ec.param) in
@@ -166,12 +166,12 @@ module _ (w : Width) (k : ResponseOpcode) (a : Response) (l : LegalResponse k a)
       let rooms : nat_le (response_length k c.0.size) room ≡ true = le-leb (response_length k c.0.size) room (omega (arith, l.whole.whole, ap (response_length k) ec.size)) in
       rw (place, follows, flags, rooms)
 
-  denial-is : (b : Beat) → (d : Bool) → a.head.denied ≡ d → Heads k a.head b → (a.head.denied ≡ true → b.1.denial ≡ a.head.denial) → cond b.0.denied b.1.denial not_denied ≡ a.head.denial
-  denial-is b true d h e = cond-true b.0.denied b.1.denial not_denied (h.denied ∙ d) ∙ e d
-  denial-is b false d h e = cond-false b.0.denied b.1.denial not_denied (h.denied ∙ d) ∙ sym (l.unblamed d)
+  denial_is : (b : Beat) → (d : Bool) → a.head.denied ≡ d → Heads k a.head b → (a.head.denied ≡ true → b.1.denial ≡ a.head.denial) → cond b.0.denied b.1.denial not_denied ≡ a.head.denial
+  denial_is b true d h e = cond-true b.0.denied b.1.denial not_denied (h.denied ∙ d) ∙ e d
+  denial_is b false d h e = cond-false b.0.denied b.1.denial not_denied (h.denied ∙ d) ∙ sym (l.unblamed d)
 
-  head-brought : (b : Beat) → Heads k a.head b → (a.head.denied ≡ true → b.1.denial ≡ a.head.denial) → head_of b.0 b.1 ≡ a.head
-  head-brought b h e =
+  head_brought : (b : Beat) → Heads k a.head b → (a.head.denied ≡ true → b.1.denial ≡ a.head.denial) → head_of b.0 b.1 ≡ a.head
+  head_brought b h e =
       λ i. record {
         opcode = h.opcode i;
         param = h.param i;
@@ -179,46 +179,46 @@ module _ (w : Width) (k : ResponseOpcode) (a : Response) (l : LegalResponse k a)
         source = h.source i;
         address = h.address i;
         denied = h.denied i;
-        denial = denial-is b a.head.denied refl h e i;
+        denial = denial_is b a.head.denied refl h e i;
       }
 
-  carried-whole : (bs : List Beat) (f : Beat → ℕ) → response_has_data k ≡ true → Carries w k a bs → length (map f bs) * per_beat (width_bytes w) a.head.size ≡ 2 ^ a.head.size
-  carried-whole bs f d c =
-      ap (λ n. n * per_beat (width_bytes w) a.head.size) (length-map bs f ∙ c.count ∙ ap (λ t. beat_count t (width_bytes w) a.head.size) d) ∙ lies-there.whole
+  carried_whole : (bs : List Beat) (f : Beat → ℕ) → response_has_data k ≡ true → Carries w k a bs → length (map f bs) * per_beat (width_bytes w) a.head.size ≡ 2 ^ a.head.size
+  carried_whole bs f d c =
+      ap (λ n. n * per_beat (width_bytes w) a.head.size) (length-map bs f ∙ c.count ∙ ap (λ t. beat_count t (width_bytes w) a.head.size) d) ∙ lies_there.whole
 
-  bytes-there : (bs : List Beat) (t : Bool) → response_has_data k ≡ true → a.head.denied ≡ t → Carries w k a bs → payload (first_lane (width_bytes w) a.head.address) (per_beat (width_bytes w) a.head.size) (map (λ c. heard c.0) bs) ≡ a.bytes
-  bytes-there bs true d denied c =
-      let long : length a.bytes ≡ 2 ^ a.head.size = l.whole.whole ∙ cond-true (response_has_data k) (2 ^ a.head.size) 0 d in
+  bytes_there : (bs : List Beat) (t : Bool) → response_has_data k ≡ true → a.head.denied ≡ t → Carries w k a bs → payload (first_lane (width_bytes w) a.head.address) (per_beat (width_bytes w) a.head.size) (map (λ c. heard c.0) bs) ≡ a.bytes
+  bytes_there bs true d denied c =
+      let long : length a.bytes ≡ 2 ^ a.head.size = l.whole.whole ∙ length_by k a.head.size ∙ cond-true (response_has_data k) (2 ^ a.head.size) 0 d in
       zero_payload (first_lane (width_bytes w) a.head.address) (per_beat (width_bytes w) a.head.size) (map (λ c. heard c.0) bs) (heard_zeros k a.head bs denied c.heads)
-      ∙ ap (λ m. replicate m 0) (carried-whole bs (λ c. heard c.0) d c ∙ sym long)
+      ∙ ap (λ m. replicate m 0) (carried_whole bs (λ c. heard c.0) d c ∙ sym long)
       ∙ sym (l.zeros denied)
-  bytes-there bs false d granted c =
+  bytes_there bs false d granted c =
       let f = first_lane (width_bytes w) a.head.address in
       let n = per_beat (width_bytes w) a.head.size in
       let ls = map (λ c. c.0.lanes) bs in
-      let long : length a.bytes ≡ 2 ^ a.head.size = l.whole.whole ∙ cond-true (response_has_data k) (2 ^ a.head.size) 0 d in
+      let long : length a.bytes ≡ 2 ^ a.head.size = l.whole.whole ∙ length_by k a.head.size ∙ cond-true (response_has_data k) (2 ^ a.head.size) 0 d in
       ap (payload f n) (heard_lanes k a.head bs granted c.heads)
       ∙ brought f n 0 ls a.bytes (c.bytes d granted)
-      ∙ (λ i. take (carried-whole bs (λ c. c.0.lanes) d c i) (drop (zero-mul n i) a.bytes))
+      ∙ (λ i. take (carried_whole bs (λ c. c.0.lanes) d c i) (drop (zero-mul n i) a.bytes))
       ∙ take_all (2 ^ a.head.size) a.bytes (omega (arith, long))
 
-  bytes-brought : (b : Beat) (bs : List Beat) (d : Bool) → response_has_data k ≡ d → Heads k a.head b → Carries w k a bs → bytes_of w k b bs ≡ a.bytes
-  bytes-brought b bs true d h c =
+  bytes_brought : (b : Beat) (bs : List Beat) (d : Bool) → response_has_data k ≡ d → Heads k a.head b → Carries w k a bs → bytes_of w k b bs ≡ a.bytes
+  bytes_brought b bs true d h c =
       cond-true (response_has_data k) _ [] d
       ∙ (λ i. payload (first_lane (width_bytes w) (h.address i)) (per_beat (width_bytes w) (h.size i)) (map (λ c. heard c.0) bs))
-      ∙ bytes-there bs a.head.denied d refl c
-  bytes-brought b bs false d h c =
-      cond-false (response_has_data k) _ [] d ∙ sym (nil_from_length a.bytes (l.whole.whole ∙ cond-false (response_has_data k) (2 ^ a.head.size) 0 d))
+      ∙ bytes_there bs a.head.denied d refl c
+  bytes_brought b bs false d h c =
+      cond-false (response_has_data k) _ [] d ∙ sym (nil_from_length a.bytes (l.whole.whole ∙ length_by k a.head.size ∙ cond-false (response_has_data k) (2 ^ a.head.size) 0 d))
 
   pub complete_from : (b : Beat) (bs : List Beat) → Carries w k a (b ∷ bs) → Accepted response_rules w k a room b (b ∷ bs)
   complete_from b bs c =
       let h = c.heads.0 in
       record {
-        begun = sym (self_judged b room) ∙ admitted-one b b h h;
-        accepted = All-weaker (Heads k a.head) (λ x. judged (Some (head_of b.0 b.1)) x.0 x.1 room ≡ Ok k) (λ x hx. admitted-one b x h hx) (b ∷ bs) c.heads;
+        begun = sym (self_judged b room) ∙ admitted_one b b h h;
+        accepted = All-weaker (Heads k a.head) (λ x. judged (Some (head_of b.0 b.1)) x.0 x.1 room ≡ Ok k) (λ x hx. admitted_one b x h hx) (b ∷ bs) c.heads;
         count_is = ap (beats_in w k) h.size;
-        head_is = head-brought b h c.denial;
-        bytes_are = bytes-brought b (b ∷ bs) (response_has_data k) refl h c;
+        head_is = head_brought b h c.denial;
+        bytes_are = bytes_brought b (b ∷ bs) (response_has_data k) refl h c;
       }
 
 -- the laws of the channel
@@ -272,5 +272,5 @@ cut_carries w k a l small =
       denial = λ e. cut_denial w k a 0 n;
       bytes = λ d e.
           let all : (0 + n) * c ≡ 2 ^ a.head.size = ap (λ m. m * c) (zero-add n ∙ ap (λ t. beat_count t (width_bytes w) a.head.size) d) ∙ s.whole in
-          cut_bytes w k a 0 n small e (omega (arith, all, l.whole.whole, cond-true (response_has_data k) (2 ^ a.head.size) 0 d));
+          cut_bytes w k a 0 n small e (omega (arith, all, l.whole.whole, length_by k a.head.size, cond-true (response_has_data k) (2 ^ a.head.size) 0 d));
     }

@@ -1,5 +1,5 @@
 -- Responses read beat by beat.
-use Rattle.std.specs.Prelude.{◌≡◌, ℕ, ◌+◌, ◌<◌, Bool, true, false, ◌&&◌, List, [], ◌∷◌, ◌++◌, map, length, drop, Some, None, Ok, Err, Result, refl}
+use Rattle.std.specs.Prelude.{◌≡◌, ℕ, ◌<◌, Bool, true, false, ◌&&◌, List, [], ◌∷◌, ◌++◌, map, length, drop, Some, None, Ok, Err, Result, refl}
 use Rattle.std.proofs.Common.{sym, ap, subst, ◌∙◌, arith}
 use Rattle.std.proofs.ByRecursion.{All-push}
 use Rattle.std.proofs.lemmas.List.{length_push, map_push, length-map}
@@ -115,13 +115,13 @@ first_read w k b xs g ys long first j false d f =
 
 -- a burst that waits, and its next beat
 module _ (w : Width) (k : ResponseOpcode) (b : Beat) (bs : List Beat) (xs : List ℕ) (u : Burst) (ys : List ℕ) (h : HalfRead w k b bs xs u ys) (c : Beat) where
-  burst-judged : judged (Some u.head) c.0 c.1 (length ys) ≡ judged (Some (head_of b.0 b.1)) c.0 c.1 (length xs)
-  burst-judged = λ i. judged (Some (h.head i)) c.0 c.1 (h.long i)
+  burst_judged : judged (Some u.head) c.0 c.1 (length ys) ≡ judged (Some (head_of b.0 b.1)) c.0 c.1 (length xs)
+  burst_judged = λ i. judged (Some (h.head i)) c.0 c.1 (h.long i)
 
   burst_on : (g : Begun ResponseHead Burst) (zs : List ℕ) → length zs ≡ length ys → Went u c.0 c.1 ys (Ok g) zs → More w k b (bs ++ c ∷ []) xs g zs
   burst_on g zs long went =
       let parts = carried_on (λ e. (e, u)) (judged (Some u.head) c.0 c.1 (length ys)) g ys zs (λ p. Taken u.width u.head u.come c.0 ys g zs) went in
-      let j : judged (Some (head_of b.0 b.1)) c.0 c.1 (length xs) ≡ Ok parts.0 = sym burst-judged ∙ parts.1 in
+      let j : judged (Some (head_of b.0 b.1)) c.0 c.1 (length xs) ≡ Ok parts.0 = sym burst_judged ∙ parts.1 in
       let same : parts.0 ≡ k = same_opcode b c (length xs) k parts.0 (fit None b.0 b.1 (length xs) k h.read.begun).opcode j in
       read_on w k b h.carries bs c xs ys zs g (long ∙ h.long) h.read (j ∙ ap Ok same)
       (subst (λ (T : Type 0). T) (λ i. Taken (h.width i) (h.head i) (h.come i) c.0 ys g zs) parts.2)
@@ -130,7 +130,7 @@ module _ (w : Width) (k : ResponseOpcode) (b : Beat) (bs : List Beat) (xs : List
   burst_stops e v zs went =
       let r : Result (Begun ResponseHead Burst) (Refusal × Burst) = Err (e, v) in
       let parts = stopped (λ x. (x, u)) (judged (Some u.head) c.0 c.1 (length ys)) r (e, v) ys zs (λ p. ⊥) (λ p x. x) refl went in
-      (sym burst-judged ∙ parts.1 ∙ ap Err (sym (ap (λ x. x.0) parts.2)), parts.3)
+      (sym burst_judged ∙ parts.1 ∙ ap Err (sym (ap (λ x. x.0) parts.2)), parts.3)
 
 -- the reader's two calls, as the channel asks for them
 pub begins : (n : ℕ) (b : Beat) (xs : List ℕ) (r : Result (Begun ResponseHead Burst) Refusal) (ys : List ℕ) → length ys ≡ length xs → Began n b.0 b.1 xs r ys → Begins response_rules HalfRead n b xs r ys

@@ -1,4 +1,4 @@
-use Rattle.std.proofs.Common.{◌≡◌, [], map, length, get_or, drop, sym, refl, ap, ◌∙◌, arith, get_or-drop, rules, true-eqb}
+use Rattle.std.proofs.Common.{◌≡◌, [], map, length, get_or, sym, refl, ap, ◌∙◌, arith, get_or-drop, rules, true-eqb}
 use Rattle.std.proofs.lemmas.List.{get_or_past}
 use Rattle.sheet.specs.Line.{told, request_of}
 use Rattle.sheet.proofs.Fields.{absent, no_words, miscounted, counted, says}

@@ -1,4 +1,4 @@
-use Rattle.std.proofs.Common.{◌<◌, ◌≤◌, ◌++◌, length, drop, Some, vec_items, Option, sym, ap, ◌∙◌, append-nil, arith, rules, true-eqb, false-eqb}
+use Rattle.std.proofs.Common.{◌<◌, ◌≤◌, ◌++◌, length, drop, Some, vec_items, sym, ap, ◌∙◌, append-nil, arith, rules, true-eqb, false-eqb}
 use Rattle.std.specs.Option.{option_map}
 use Rattle.std.proofs.lemmas.List.{take_rest}
 use Rattle.sheet.specs.Numeral.{bytes_of}

@@ -1,4 +1,4 @@
-use Rattle.std.proofs.Common.{◌-◌, ◌*◌, ◌%◌, ◌^◌, ap, ◌∙◌, mod-eq_of_lt, div-one}
+use Rattle.std.proofs.Common.{◌*◌, ◌%◌, ◌^◌, ap, ◌∙◌, mod-eq_of_lt, div-one}
 use lib.Pow.{ones_lt}
 use Rattle.beat.proofs.lanes.Lanes.active.Goals as goal
 
