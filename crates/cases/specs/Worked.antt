@@ -1,13 +1,11 @@
 -- The worked cases as one table: on what the product's calls were made, and what they answered.
-use Rattle.std.specs.Prelude.{◌≡◌, ℕ, ◌-◌, ◌^◌, Bool, true, false, List, [], replicate, Some, None, Ok, Err, Option, Result}
+use Rattle.std.specs.Prelude.{◌≡◌, ℕ, ◌-◌, ◌^◌, Bool, true, false, List, [], replicate, Result}
 use Rattle.message.specs.declared.operation.Operation.{Operation}
 use Rattle.message.specs.declared.refusal.Refusal.{Refusal}
 use Rattle.message.specs.declared.request.RequestHead.{RequestHead}
 use Rattle.message.specs.Refusal.{number_of}
 use Rattle.message.specs.Request.{request, checked}
 use Rattle.message.specs.AddressSet.{contains, overlap}
-use Rattle.beat.specs.declared.request.RequestBeat.{RequestBeat}
-use Rattle.beat.specs.Request.{cut_request}
 use Rattle.cases.specs.declared.Cases.{Cases}
 
 -- the verdict on a request, and its number: 0 for a legal one, else its refusal's
@@ -28,21 +26,6 @@ get_64 address = record { opcode = 4; param = 0; size = 6; source = 0; address =
 abbrev pub put_fe : ℕ → RequestHead
 put_fe opcode = record { opcode = opcode; param = 0; size = 3; source = 0; address = 0; mask = 0xfe }
 
--- a Get of two bytes
-abbrev pub get_2 : ℕ → RequestHead
-get_2 address = record { opcode = 4; param = 0; size = 1; source = 0; address = address; mask = 3 }
-
--- a beat with this lane mask
-abbrev pub Masked : ℕ → Result (Option RequestBeat) Refusal → Type 0
-Masked mask (Ok (Some b)) = b.mask ≡ mask
-Masked mask (Ok None) = ⊥
-Masked mask (Err e) = ⊥
-
--- a beat that was cut, and its lane mask
-pub record Cut (width : ℕ) (q : RequestHead) (bytes : List ℕ) (index mask : ℕ) (r : Result (Option RequestBeat) Refusal) : Type 0 where
-  pub beat : r ≡ cut_request width (request q bytes) index
-  pub masked : Masked mask r
-
 pub record Worked (c : Cases) : Type 0 where
   -- a Get of size 6 is legal at address 40, and at 44 the address is refused
   pub get_at_40 : Judged (get_64 0x40) [] 0 c.get_64_at_40
@@ -54,5 +37,3 @@ pub record Worked (c : Cases) : Type 0 where
   pub contains_1fff : Tested (contains 0x1000 0xfff 0x1fff) true c.set_1000_fff_contains_1fff
   pub contains_2000 : Tested (contains 0x1000 0xfff 0x2000) false c.set_1000_fff_contains_2000
   pub overlaps : Tested (overlap 0x1000 0xfff 0 0x1fff) true c.set_1000_fff_overlaps_0_1fff
-  -- of width 4, the first beat of a Get of size 1 at address 6 has the lane mask c
-  pub beat_of_2_at_6 : Cut 4 (get_2 6) [] 0 0xc c.beat_of_2_at_6

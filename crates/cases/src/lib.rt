@@ -1,10 +1,11 @@
 // The worked cases: examples whose answers are known beforehand, each given by the product's own calls.
 #![tactic(auto)]
 
+pub mod beats;
+
 ghost use Rattle.std.specs.Prelude.{◌≡◌, bit_and};
 ghost use Rattle.cases.specs.Worked.{Worked};
 
-use beat::request::RequestBeat;
 use message::address_set::AddressSet;
 use message::operation::Operation;
 use message::refusal::Refusal;
@@ -20,7 +21,6 @@ pub struct Cases {
     pub set_1000_fff_contains_1fff: bool,
     pub set_1000_fff_contains_2000: bool,
     pub set_1000_fff_overlaps_0_1fff: bool,
-    pub beat_of_2_at_6: Result<Option<RequestBeat>, Refusal>,
 }
 
 pub fn worked_cases() -> Cases
@@ -42,12 +42,6 @@ pub fn worked_cases() -> Cases
         address: 0,
         mask: 0xfe,
     };
-    let pair = RequestHead {
-        size: 1,
-        address: 6,
-        mask: 3,
-        ..get
-    };
     let page = set(0x1000, 0xfff);
     Cases {
         get_64_at_40: get.check(&[]),
@@ -61,7 +55,6 @@ pub fn worked_cases() -> Cases
         set_1000_fff_contains_1fff: page.contains(0x1fff),
         set_1000_fff_contains_2000: page.contains(0x2000),
         set_1000_fff_overlaps_0_1fff: page.overlaps(set(0, 0x1fff)),
-        beat_of_2_at_6: RequestBeat::cut(pair, &[], 4, 0),
     }
 }
 

@@ -1,7 +1,6 @@
-use Rattle.std.proofs.Common.{sym, refl, ap, subst, rules}
+use Rattle.std.proofs.Common.{ap, rules}
 use Rattle.message.specs.Refusal.{number_of}
 use Rattle.message.specs.Request.{placed, checked}
-use Rattle.cases.specs.Worked.{Masked}
 use Rattle.cases.proofs.worked_cases.Goals as goal
 
 pub returns : goal.returns
@@ -11,7 +10,6 @@ returns c =
     let b = c.check-2.ensures.value in
     let p = c.check-3.ensures.value in
     let f = c.check-4.ensures.value in
-    let k = c.cut.ensures.value in
     record {
       get_at_40 = record { verdict = a; number = ap number_of a };
       get_at_44 = record { verdict = b; number = ap number_of b };
@@ -20,5 +18,4 @@ returns c =
       contains_1fff = search rules;
       contains_2000 = search rules;
       overlaps = search rules;
-      beat_of_2_at_6 = record { beat = k; masked = subst (Masked 0xc) (sym k) refl };
     }

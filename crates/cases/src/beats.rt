@@ -1,0 +1,27 @@
+ghost use Rattle.cases.specs.Beats.{WorkedBeats};
+
+use beat::request::RequestBeat;
+use message::refusal::Refusal;
+use message::request::RequestHead;
+
+// What the calls on beats answered.
+#[derive(Clone, Copy)]
+pub struct BeatCases {
+    pub beat_of_2_at_6: Result<Option<RequestBeat>, Refusal>,
+}
+
+pub fn beat_cases() -> BeatCases
+    ensures { WorkedBeats result }
+{
+    let pair = RequestHead {
+        opcode: 4,
+        param: 0,
+        size: 1,
+        source: 0,
+        address: 6,
+        mask: 3,
+    };
+    BeatCases {
+        beat_of_2_at_6: RequestBeat::cut(pair, &[], 4, 0),
+    }
+}
