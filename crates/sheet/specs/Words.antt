@@ -1,6 +1,6 @@
 -- The words of a line.
 use Rattle.std.specs.Prelude.{◌≡◌, ℕ, ◌<◌, Bool, true, false, cond, List, [], ◌∷◌, ◌++◌, length, filter}
-use Rattle.std.specs.List.{AllByRecursion as All}
+use Rattle.std.specs.List.{AllByRecursion}
 use Rattle.sheet.specs.Stretch.{blank, comment, joined_on}
 
 -- a line without its comment
@@ -32,7 +32,7 @@ Plain byte = (blank byte ≡ false) × (comment byte ≡ false)
 
 -- a word that can be typed
 abbrev pub Typed : List ℕ → Type 0
-Typed word = (0 < length word) × All Plain word
+Typed word = (0 < length word) × AllByRecursion Plain word
 
 -- words typed with a space after each
 abbrev pub spaced : List (List ℕ) → List ℕ

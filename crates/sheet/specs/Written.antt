@@ -1,6 +1,6 @@
 -- A request as a line writes it, each number with all the digits that its field can need.
 use Rattle.std.specs.Prelude.{ℕ, zero, suc, ◌+◌, ◌/◌, ◌%◌, ◌^◌, ◌<◌, cond, List, [], ◌∷◌, ◌++◌, nat_lt}
-use Rattle.std.specs.List.{AllByRecursion as All}
+use Rattle.std.specs.List.{AllByRecursion}
 use Rattle.message.specs.Request.{Request}
 use Rattle.sheet.specs.declared.numeral.Base.{Base}
 use Rattle.sheet.specs.declared.numeral.Base.TheVariants.{Decimal, Hexadecimal}
@@ -49,4 +49,4 @@ pub record Fits (q : Request) : Type 0 where
   pub source : q.head.source < 2 ^ 8
   pub address : q.head.address < 2 ^ 32
   pub mask : q.head.mask < 2 ^ 64
-  pub bytes : All (λ b. b < 2 ^ 8) q.bytes
+  pub bytes : AllByRecursion (λ b. b < 2 ^ 8) q.bytes

@@ -1,5 +1,5 @@
 ghost use Rattle.std.specs.Prelude.{◌≡◌, ℕ, List, map, IfOk};
-ghost use Rattle.std.specs.List.{AllByRecursion as All};
+ghost use Rattle.std.specs.List.{AllByRecursion};
 ghost use Rattle.message.specs.Request.{Request};
 ghost use Rattle.sheet.specs.Words.{Typed, spaced};
 ghost use Rattle.sheet.specs.Line.{small_of, address_of, head_of, request_of, told, request, reading, view, line_of};
@@ -105,7 +105,7 @@ fn read_words(heap: Global, words: &[&[u8]]) -> Result<Line, AllocError>
 // What one line of a sheet says. Words that have no blank and no `#` are read as they were typed.
 pub fn read_line(heap: Global, line: &[u8]) -> Result<Line, AllocError>
     ensures said { IfOk result (λ said. view said ≡ line_of line.now) }
-    ensures typed { (ws : List (List ℕ)) → All Typed ws → line.now ≡ spaced ws → IfOk result (λ said. view said ≡ reading ws) }
+    ensures typed { (ws : List (List ℕ)) → AllByRecursion Typed ws → line.now ≡ spaced ws → IfOk result (λ said. view said ≡ reading ws) }
     ensures written { (q : Request) → Fits q → line.now ≡ written q → IfOk result (λ said. view said ≡ request q) }
 {
     let words = words(heap, line)?;

@@ -4,7 +4,7 @@ use Rattle.std.proofs.Common.{sym, ap, subst, ◌∙◌, add-mul, mul-add, one-m
 use Rattle.std.proofs.Math.Nat.{mod-one, pow-zero}
 use Rattle.std.specs.Simd.Lanes.{number_l}
 use Rattle.std.proofs.Math.Pow.{ones_split, ones_lt, high, low}
-use Rattle.std.specs.List.{AllByRecursion as All}
+use Rattle.std.specs.List.{AllByRecursion}
 use Rattle.std.proofs.lemmas.Nat.{pow-add, pow_pos, shr-shr, shl-shr, mod_below, mod-pow-add}
 use Rattle.std.proofs.lemmas.List.{map_push, length-map}
 use Rattle.beat.specs.Lanes.{beat_bits, active_lanes}
@@ -41,7 +41,7 @@ brought_mask f k j (m ∷ ms) mask h =
     (λ i. first i + 2 ^ k * rest i) ∙ sum ∙ ap (λ n. x % 2 ^ n) all
 
 -- and lane masks with no bit outside their lanes are those of the mask that they bring
-pub held_mask : (f k j : ℕ) (ms : List ℕ) (mask : ℕ) → mask / 2 ^ (j * k) ≡ joined_mask f k ms → All (λ m. m / 2 ^ f % 2 ^ k * 2 ^ f ≡ m) ms → HoldMask f k j ms mask
+pub held_mask : (f k j : ℕ) (ms : List ℕ) (mask : ℕ) → mask / 2 ^ (j * k) ≡ joined_mask f k ms → AllByRecursion (λ m. m / 2 ^ f % 2 ^ k * 2 ^ f ≡ m) ms → HoldMask f k j ms mask
 held_mask f k j [] mask e h = tt
 held_mask f k j (m ∷ ms) mask e h =
     let d = m / 2 ^ f % 2 ^ k in
@@ -62,7 +62,7 @@ mask_below f k (m ∷ ms) =
     subst (λ n. d + 2 ^ k * joined_mask f k ms < n) (sym (pow-add 2 k (length ms * k)) ∙ ap (λ n. 2 ^ n) (sym (one_more (length ms) k))) high
 
 -- whole lane masks bring a whole mask
-pub mask_full : (f k : ℕ) (ms : List ℕ) → All (λ m. m ≡ active_lanes f k) ms → joined_mask f k ms ≡ 2 ^ (length ms * k) - 1
+pub mask_full : (f k : ℕ) (ms : List ℕ) → AllByRecursion (λ m. m ≡ active_lanes f k) ms → joined_mask f k ms ≡ 2 ^ (length ms * k) - 1
 mask_full f k [] h = sym (ap (λ n. 2 ^ n - 1) (zero-mul k))
 mask_full f k (m ∷ ms) h =
     let d : m / 2 ^ f % 2 ^ k ≡ 2 ^ k - 1 = ap (λ n. n / 2 ^ f % 2 ^ k) h.0 ∙ ap (λ n. n % 2 ^ k) (shl-shr (2 ^ k - 1) f) ∙ mod-eq_of_lt (ones_lt k) in
@@ -81,7 +81,7 @@ ones_part n a k le =
 pub whole_bits : (n j k : ℕ) → (j + 1) * k ≤ n → beat_bits k j (2 ^ n - 1) ≡ 2 ^ k - 1
 whole_bits n j k le = ones_part n (j * k) k (omega (arith, add-mul j 1 k, one-mul k))
 
-pub held_whole : (f k n j : ℕ) (ms : List ℕ) → (j + length ms) * k ≤ n → All (λ m. m ≡ active_lanes f k) ms → HoldMask f k j ms (2 ^ n - 1)
+pub held_whole : (f k n j : ℕ) (ms : List ℕ) → (j + length ms) * k ≤ n → AllByRecursion (λ m. m ≡ active_lanes f k) ms → HoldMask f k j ms (2 ^ n - 1)
 held_whole f k n j [] le h = tt
 held_whole f k n j (m ∷ ms) le h =
     let next : j + suc (length ms) ≡ j + 1 + length ms = omega arith in

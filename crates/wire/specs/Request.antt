@@ -1,6 +1,6 @@
 -- Channel A: the beats of requests, and what they bring together.
 use Rattle.std.specs.Prelude.{◌≡◌, ℕ, ◌<◌, true, cond, List, [], map, length, Some, None}
-use Rattle.std.specs.List.{AllByRecursion as All}
+use Rattle.std.specs.List.{AllByRecursion}
 use Rattle.message.specs.declared.operation.Operation.{Operation}
 use Rattle.message.specs.declared.request.RequestHead.{RequestHead}
 use Rattle.message.specs.Operation.{has_data}
@@ -35,7 +35,7 @@ message_of w o b bs = head_of b (cond (has_data o) (mask_of w b bs) (whole b.siz
 -- beats are those of a request, but for the lanes that a reader ignores: inactive ones, and all where there is no data
 pub record Carries (w : Width) (o : Operation) (q : Request) (bs : List RequestBeat) : Type 0 where
   pub count : length bs ≡ beats_in w o q.head.size
-  pub heads : All (λ b. head_of b 0 ≡ with_mask q.head 0) bs
+  pub heads : AllByRecursion (λ b. head_of b 0 ≡ with_mask q.head 0) bs
   pub masks : HoldMask (first_lane (width_bytes w) q.head.address) (per_beat (width_bytes w) q.head.size) 0 (map (λ b. b.mask) bs) q.head.mask
   pub bytes : has_data o ≡ true → HoldBytes (first_lane (width_bytes w) q.head.address) (per_beat (width_bytes w) q.head.size) 0 (map (λ b. b.lanes) bs) q.bytes
 

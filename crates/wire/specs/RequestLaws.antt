@@ -4,7 +4,7 @@ use Rattle.std.proofs.Math.Path.{refl, sym, ap}
 use Rattle.std.proofs.Common.{subst, ◌∙◌, add-mul, zero-add, one-mul, zero-mul, div-one, mod-eq_of_lt, arith}
 use Rattle.std.specs.Simd.Lanes.{Each1}
 use Rattle.std.proofs.Math.Pow.{ones_lt}
-use Rattle.std.specs.List.{AllByRecursion as All}
+use Rattle.std.specs.List.{AllByRecursion}
 use Rattle.std.proofs.ByRecursion.{All-weaker, All-map}
 use Rattle.std.proofs.lemmas.Simd.{Each1-chunk, length-chunk}
 use Rattle.std.proofs.lemmas.List.{take_all, nil_from_length, length-map}
@@ -82,10 +82,10 @@ module _ (w : Width) (o : Operation) (b : RequestBeat) (bs : List RequestBeat) (
   abbrev brings : Request
   brings = request (message_of w o b bs) (bytes_of w o b bs)
 
-  masks_all : (P : ℕ → Type 0) → ((c : RequestBeat) → judged (Some (head_of b 0)) w c (length xs) ≡ Ok o → P c.mask) → All P (map (λ c. c.mask) bs)
+  masks_all : (P : ℕ → Type 0) → ((c : RequestBeat) → judged (Some (head_of b 0)) w c (length xs) ≡ Ok o → P c.mask) → AllByRecursion P (map (λ c. c.mask) bs)
   masks_all P h = All-map P (λ c. c.mask) bs (All-weaker (λ c. judged (Some (head_of b 0)) w c (length xs) ≡ Ok o) (λ c. P c.mask) h bs r.accepted)
 
-  heads_all : All (λ c. head_of c 0 ≡ head_of b 0) bs
+  heads_all : AllByRecursion (λ c. head_of c 0 ≡ head_of b 0) bs
   heads_all =
       All-weaker (λ c. judged (Some (head_of b 0)) w c (length xs) ≡ Ok o) (λ c. head_of c 0 ≡ head_of b 0) (λ c a. same_heads b c (same w o b (length xs) c a)) bs r.accepted
 
@@ -171,7 +171,7 @@ module _ (w : Width) (o : Operation) (q : Request) (l : Legal o q) (room : ℕ) 
       let rooms : nat_le (data_length o c.size) room ≡ true = le-leb (data_length o c.size) room (omega (arith, data_counted (has_data o) refl, ap (data_length o) size)) in
       rw (place, follows, masks, rooms)
 
-  pub admitted_all : (b : RequestBeat) (cs : List RequestBeat) (j : ℕ) → head_of b 0 ≡ with_mask q.head 0 → All (λ c. head_of c 0 ≡ with_mask q.head 0) cs → HoldMask (first_lane (width_bytes w) q.head.address) (per_beat (width_bytes w) q.head.size) j (map (λ c. c.mask) cs) q.head.mask → (j + length cs) * per_beat (width_bytes w) q.head.size ≤ 2 ^ q.head.size → All (λ c. judged (Some (head_of b 0)) w c room ≡ Ok o) cs
+  pub admitted_all : (b : RequestBeat) (cs : List RequestBeat) (j : ℕ) → head_of b 0 ≡ with_mask q.head 0 → AllByRecursion (λ c. head_of c 0 ≡ with_mask q.head 0) cs → HoldMask (first_lane (width_bytes w) q.head.address) (per_beat (width_bytes w) q.head.size) j (map (λ c. c.mask) cs) q.head.mask → (j + length cs) * per_beat (width_bytes w) q.head.size ≤ 2 ^ q.head.size → AllByRecursion (λ c. judged (Some (head_of b 0)) w c room ≡ Ok o) cs
   admitted_all b [] j eb heads masks le = tt
   admitted_all b (c ∷ cs) j eb heads masks le =
       let k = per_beat (width_bytes w) q.head.size in
@@ -243,7 +243,7 @@ cut_length : (w : Width) (o : Operation) (q : Request) (j n : ℕ) → length (c
 cut_length w o q j zero = refl
 cut_length w o q j (suc n) = ap suc (cut_length w o q (j + 1) n)
 
-cut_heads : (w : Width) (o : Operation) (q : Request) (j n : ℕ) → All (λ b. head_of b 0 ≡ with_mask q.head 0) (cut_from request_rules w o q j n)
+cut_heads : (w : Width) (o : Operation) (q : Request) (j n : ℕ) → AllByRecursion (λ b. head_of b 0 ≡ with_mask q.head 0) (cut_from request_rules w o q j n)
 cut_heads w o q j zero = tt
 cut_heads w o q j (suc n) = (refl, cut_heads w o q (j + 1) n)
 

@@ -1,6 +1,6 @@
 -- Channel D: the beats of responses with what travels beside them, and what they bring together.
 use Rattle.std.specs.Prelude.{◌≡◌, ℕ, ◌<◌, true, false, cond, ◌&&◌, List, [], ◌∷◌, map, length, Some, None}
-use Rattle.std.specs.List.{AllByRecursion as All}
+use Rattle.std.specs.List.{AllByRecursion}
 use Rattle.message.specs.declared.response.ResponseHead.{ResponseHead}
 use Rattle.message.specs.declared.response.ResponseOpcode.{ResponseOpcode}
 use Rattle.message.specs.Response.{Response, LegalResponse, response_has_data}
@@ -45,7 +45,7 @@ Leads P (b ∷ bs) = P b
 -- beats are those of a response, but for what a reader ignores: lanes that carry no byte or denied ones, and all denials but a denied message's first
 pub record Carries (w : Width) (k : ResponseOpcode) (a : Response) (bs : List Beat) : Type 0 where
   pub count : length bs ≡ beats_in w k a.head.size
-  pub heads : All (Heads k a.head) bs
+  pub heads : AllByRecursion (Heads k a.head) bs
   pub denial : a.head.denied ≡ true → Leads (λ b. b.1.denial ≡ a.head.denial) bs
   pub bytes : response_has_data k ≡ true → a.head.denied ≡ false → HoldBytes (first_lane (width_bytes w) a.head.address) (per_beat (width_bytes w) a.head.size) 0 (map (λ b. b.0.lanes) bs) a.bytes
 

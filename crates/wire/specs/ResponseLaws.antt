@@ -4,7 +4,7 @@ use Rattle.std.proofs.Math.Path.{sym, ap}
 use Rattle.std.proofs.Common.{subst, ◌∙◌, add-mul, zero-add, one-mul, zero-mul, arith}
 use Rattle.std.proofs.Math.Nat.{zero-div}
 use Rattle.std.specs.Simd.Lanes.{Each1, digits_l}
-use Rattle.std.specs.List.{AllByRecursion as All}
+use Rattle.std.specs.List.{AllByRecursion}
 use Rattle.std.proofs.lemmas.Nat.{div-add-mod'}
 use Rattle.std.proofs.ByRecursion.{All-weaker}
 use Rattle.std.proofs.lemmas.Simd.{Each1-chunk, length-chunk}
@@ -36,7 +36,7 @@ zero_digits (suc n) = ap (λ l. 0 ∷ l) (zero_digits n)
 zero_bytes : (f n : ℕ) → lane_bytes f n 0 ≡ replicate n 0
 zero_bytes f n = ap (digits_l 256 n) (zero-div (2 ^ (8 * f))) ∙ zero_digits n
 
-zero_payload : (f n : ℕ) (ls : List ℕ) → All (λ l. l ≡ 0) ls → payload f n ls ≡ replicate (length ls * n) 0
+zero_payload : (f n : ℕ) (ls : List ℕ) → AllByRecursion (λ l. l ≡ 0) ls → payload f n ls ≡ replicate (length ls * n) 0
 zero_payload f n [] h = ap (λ m. replicate m 0) (sym (zero-mul n))
 zero_payload f n (l ∷ ls) h =
     (λ i. (ap (lane_bytes f n) h.0 ∙ zero_bytes f n) i ++ zero_payload f n ls h.1 i)
@@ -68,11 +68,11 @@ heard_denied b e = cond-true b.denied 0 b.lanes e
 heard_granted : (b : ResponseBeat) → b.denied ≡ false → heard b ≡ b.lanes
 heard_granted b e = cond-false b.denied 0 b.lanes e
 
-heard_zeros : (k : ResponseOpcode) (h : ResponseHead) (bs : List Beat) → h.denied ≡ true → All (Heads k h) bs → All (λ l. l ≡ 0) (map (λ c. heard c.0) bs)
+heard_zeros : (k : ResponseOpcode) (h : ResponseHead) (bs : List Beat) → h.denied ≡ true → AllByRecursion (Heads k h) bs → AllByRecursion (λ l. l ≡ 0) (map (λ c. heard c.0) bs)
 heard_zeros k h [] d a = tt
 heard_zeros k h (c ∷ bs) d a = (heard_denied c.0 (a.0.denied ∙ d), heard_zeros k h bs d a.1)
 
-heard_lanes : (k : ResponseOpcode) (h : ResponseHead) (bs : List Beat) → h.denied ≡ false → All (Heads k h) bs → map (λ c. heard c.0) bs ≡ map (λ c. c.0.lanes) bs
+heard_lanes : (k : ResponseOpcode) (h : ResponseHead) (bs : List Beat) → h.denied ≡ false → AllByRecursion (Heads k h) bs → map (λ c. heard c.0) bs ≡ map (λ c. c.0.lanes) bs
 heard_lanes k h [] d a = refl
 heard_lanes k h (c ∷ bs) d a =
     λ i. heard_granted c.0 (a.0.denied ∙ d) i ∷ heard_lanes k h bs d a.1 i
@@ -91,7 +91,7 @@ module _ (w : Width) (k : ResponseOpcode) (b : Beat) (bs : List Beat) (xs ys : L
   abbrev lanes_heard : List ℕ
   lanes_heard = map (λ c. heard c.0) (b ∷ bs)
 
-  heads_all : All (Heads k (head_of b.0 b.1)) (b ∷ bs)
+  heads_all : AllByRecursion (Heads k (head_of b.0 b.1)) (b ∷ bs)
   heads_all =
       All-weaker (λ c. judged (Some (head_of b.0 b.1)) c.0 c.1 (length xs) ≡ Ok k) (Heads k (head_of b.0 b.1)) (λ c j. heads_fit k b c (length xs) j) (b ∷ bs) r.accepted
 
@@ -239,7 +239,7 @@ cut_length : (w : Width) (k : ResponseOpcode) (a : Response) (j n : ℕ) → len
 cut_length w k a j zero = refl
 cut_length w k a j (suc n) = ap suc (cut_length w k a (j + 1) n)
 
-cut_heads : (w : Width) (k : ResponseOpcode) (a : Response) (j n : ℕ) → All (Heads k a.head) (cut_from response_rules w k a j n)
+cut_heads : (w : Width) (k : ResponseOpcode) (a : Response) (j n : ℕ) → AllByRecursion (Heads k a.head) (cut_from response_rules w k a j n)
 cut_heads w k a j zero = tt
 cut_heads w k a j (suc n) =
     (record { opcode = refl; param = refl; size = refl; source = refl; denied = refl; corrupt = refl; address = refl }, cut_heads w k a (j + 1) n)

@@ -1,7 +1,7 @@
 -- What joining has to know of a channel.
 use Rattle.std.specs.Prelude.{◌≡◌, ℕ, zero, suc, ◌+◌, ◌<◌, ◌≤◌, List, [], ◌∷◌, ◌++◌, length, drop, Ok, Result}
 use Rattle.std.specs.Simd.Lanes.{Each1}
-use Rattle.std.specs.List.{AllByRecursion as All}
+use Rattle.std.specs.List.{AllByRecursion}
 use Rattle.message.specs.declared.refusal.Refusal.{Refusal}
 use Rattle.beat.specs.declared.width.Width.{Width}
 
@@ -28,7 +28,7 @@ module _ {B H K M : Type 0} (ch : Rules B H K M) where
   -- beats are read, b the first of them: none is refused, none is too many, and their bytes stand at the front of the buffer
   pub record Read (w : Width) (k : K) (b : B) (bs : List B) (xs ys : List ℕ) : Type 0 where
     pub begun : ch.first w b (length xs) ≡ Ok k
-    pub accepted : All (λ c. ch.next w b c (length xs) ≡ Ok k) bs
+    pub accepted : AllByRecursion (λ c. ch.next w b c (length xs) ≡ Ok k) bs
     pub few : length bs ≤ ch.due w k b
     pub buffer : ys ≡ ch.joined_bytes w k b bs ++ drop (length (ch.joined_bytes w k b bs)) xs
 
@@ -52,7 +52,7 @@ module _ {B H K M : Type 0} (ch : Rules B H K M) where
   -- what a reader finds of the beats of a message: none is refused, and they bring the message
   pub record Accepted (w : Width) (k : K) (m : M) (room : ℕ) (b : B) (bs : List B) : Type 0 where
     pub begun : ch.first w b room ≡ Ok k
-    pub accepted : All (λ c. ch.next w b c room ≡ Ok k) bs
+    pub accepted : AllByRecursion (λ c. ch.next w b c room ≡ Ok k) bs
     pub count_is : ch.due w k b ≡ ch.count w k m
     pub head_is : ch.joined_head w k b bs ≡ ch.head m
     pub bytes_are : ch.joined_bytes w k b bs ≡ ch.bytes m

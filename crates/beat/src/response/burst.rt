@@ -7,6 +7,7 @@ use crate::width::Width;
 use message::response::ResponseHead;
 
 // A response of which beats are still due: its head, and how many beats have come.
+// It is not `Drop`, so the check refuses code that lets a half-sent one lapse.
 pub struct Burst {
     pub(crate) head: ResponseHead,
     pub(crate) width: Width,
@@ -15,19 +16,6 @@ pub struct Burst {
     ghost aligned: { head.address % 2 ^ head.size ≡ 0 },
     ghost carries: { response_carries_data head.opcode head.param ≡ true },
     ghost due: { come < beat_count true (width_bytes width) head.size },
-}
-
-// No half-sent burst meets this, so the check refuses to let one lapse.
-impl Drop for Burst {
-    fn drop(self)
-        requires { self.come ≡ beat_count true (width_bytes self.width) self.head.size }
-    {
-        let Burst {
-            head: _,
-            width: _,
-            come: _,
-        } = self;
-    }
 }
 
 impl Burst {
