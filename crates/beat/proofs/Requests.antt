@@ -19,7 +19,7 @@ use Rattle.beat.specs.declared.request.burst.Burst.{Burst}
 use Rattle.beat.specs.declared.width.Width.{Width}
 use Rattle.beat.specs.Lanes.{beat_count, per_beat, lane_byte, Received}
 use Rattle.beat.specs.Begun.{UnlessRefused}
-use Rattle.beat.specs.Request.{request_beat, Laid_out, Began, Went, head_of, same_head, lane_mask_fits, admitted, judged, Due, Stands, Taken, First, mask_after, mask_read, LanesRead}
+use Rattle.beat.specs.Request.{request_beat, LaidOut, Began, Went, head_of, same_head, lane_mask_fits, admitted, judged, Due, Stands, Taken, First, mask_after, mask_read, LanesRead}
 use Rattle.beat.specs.Width.{width_bytes, width_of}
 use Rattle.beat.proofs.Lays.{bytes_sent, bits_sent, bytes_received, bits_received}
 use Rattle.beat.proofs.Verdicts.{not_refused}
@@ -147,10 +147,10 @@ went_with u b o xs g ys fits t =
     let r : Result (Begun RequestHead Burst) (Refusal × Burst) = Ok g in
     not_refused (λ e. (e, u)) (judged (Some u.head) u.width b (length xs)) o r xs ys (λ p. Taken u.width u.head u.come b xs g ys) fits t
 
-pub laid_out : (n : ℕ) (w : Width) (q : Request) (j : ℕ) (b : RequestBeat) → n ≡ width_bytes w → Shape (width_bytes w) q.head.size q.head.address → j < beat_count true (width_bytes w) q.head.size → Each1 (λ x. x < 256) q.bytes → b ≡ request_beat w q j → Laid_out n q j (Ok (Some b))
+pub laid_out : (n : ℕ) (w : Width) (q : Request) (j : ℕ) (b : RequestBeat) → n ≡ width_bytes w → Shape (width_bytes w) q.head.size q.head.address → j < beat_count true (width_bytes w) q.head.size → Each1 (λ x. x < 256) q.bytes → b ≡ request_beat w q j → LaidOut n q j (Ok (Some b))
 laid_out n w q j b is s lt bytes e =
     let h = q.head in
     let v = width_bytes w in
-    subst (λ m. Laid_out m q j (Ok (Some b))) (sym is)
-    (subst (λ x. Laid_out v q j (Ok (Some x))) (sym e)
+    subst (λ m. LaidOut m q j (Ok (Some b))) (sym is)
+    (subst (λ x. LaidOut v q j (Ok (Some x))) (sym e)
     (bits_sent v h.size h.address s j lt h.mask, bytes_sent v h.size h.address s j lt q.bytes bytes))

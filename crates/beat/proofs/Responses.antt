@@ -20,7 +20,7 @@ use Rattle.beat.specs.declared.response.burst.Burst.{Burst}
 use Rattle.beat.specs.declared.width.Width.{Width}
 use Rattle.beat.specs.Begun.{UnlessRefused}
 use Rattle.beat.specs.Lanes.{beat_count, beat_bytes, in_lanes, lane_byte, Received}
-use Rattle.beat.specs.Response.{sent_bytes, response_beat, Laid_out, Began, Went, head_of, heard, agree, same_head, corrupt_fits, admitted, judged, Due, Taken, First, LanesRead}
+use Rattle.beat.specs.Response.{sent_bytes, response_beat, LaidOut, Began, Went, head_of, heard, agree, same_head, corrupt_fits, admitted, judged, Due, Taken, First, LanesRead}
 use Rattle.beat.specs.Width.{width_bytes, width_of}
 use Rattle.beat.proofs.Lays.{bytes_sent, bytes_received}
 use Rattle.beat.proofs.Verdicts.{not_refused}
@@ -167,10 +167,10 @@ went_with u b s k xs g ys fits t =
     let r : Result (Begun ResponseHead Burst) (Refusal × Burst) = Ok g in
     not_refused (λ e. (e, u)) (judged (Some u.head) b s (length xs)) k r xs ys (λ p. Taken u.width u.head u.come b xs g ys) fits t
 
-pub laid_out : (n : ℕ) (w : Width) (a : Response) (k : ResponseOpcode) (j : ℕ) (b : ResponseBeat) → n ≡ width_bytes w → Shape (width_bytes w) a.head.size a.head.address → j < beat_count true (width_bytes w) a.head.size → Each1 (λ x. x < 256) a.bytes → b ≡ response_beat w a k j → Laid_out n a j (Ok (Some b))
+pub laid_out : (n : ℕ) (w : Width) (a : Response) (k : ResponseOpcode) (j : ℕ) (b : ResponseBeat) → n ≡ width_bytes w → Shape (width_bytes w) a.head.size a.head.address → j < beat_count true (width_bytes w) a.head.size → Each1 (λ x. x < 256) a.bytes → b ≡ response_beat w a k j → LaidOut n a j (Ok (Some b))
 laid_out n w a k j b is s lt bytes e =
     let h = a.head in
     let v = width_bytes w in
-    subst (λ m. Laid_out m a j (Ok (Some b))) (sym is)
-    (subst (λ x. Laid_out v a j (Ok (Some x))) (sym e)
+    subst (λ m. LaidOut m a j (Ok (Some b))) (sym is)
+    (subst (λ x. LaidOut v a j (Ok (Some x))) (sym e)
     (bytes_sent v h.size h.address s j lt (sent_bytes a) (sent_small a.bytes h.denied bytes)))

@@ -40,12 +40,12 @@ cut_request n q j =
     Ok (cond (nat_lt j (beat_count (has_data o) (width_bytes w) q.head.size)) (Some (request_beat w q j)) None)))
 
 -- the lane of each byte's address has its mask bit and the byte itself; other lanes, and a message without data, have 0
-abbrev pub Laid_out : ℕ → Request → ℕ → Result (Option RequestBeat) Refusal → Type 0
-Laid_out w q j (Ok (Some b)) =
+abbrev pub LaidOut : ℕ → Request → ℕ → Result (Option RequestBeat) Refusal → Type 0
+LaidOut w q j (Ok (Some b)) =
     Sent w q.head.address q.head.size j (bit q.head.mask) (bit b.mask)
     × Sent w q.head.address q.head.size j (λ i. slice_index q.bytes i) (lane_byte b.lanes)
-Laid_out w q j (Ok None) = Unit {0}
-Laid_out w q j (Err e) = Unit {0}
+LaidOut w q j (Ok None) = Unit {0}
+LaidOut w q j (Err e) = Unit {0}
 
 -- the head of a beat's message, with what is known of its mask
 abbrev pub head_of : RequestBeat → ℕ → RequestHead

@@ -50,11 +50,11 @@ cut_response n a j =
     Ok (cond (nat_lt j (beat_count (response_has_data k) (width_bytes w) a.head.size)) (Some (response_beat w a k j)) None)))
 
 -- the lane of each byte's address has the byte; other lanes, and a message without data, have 0
-abbrev pub Laid_out : ℕ → Response → ℕ → Result (Option ResponseBeat) Refusal → Type 0
-Laid_out w a j (Ok (Some b)) =
+abbrev pub LaidOut : ℕ → Response → ℕ → Result (Option ResponseBeat) Refusal → Type 0
+LaidOut w a j (Ok (Some b)) =
     Sent w a.head.address a.head.size j (λ i. slice_index (sent_bytes a) i) (lane_byte b.lanes)
-Laid_out w a j (Ok None) = Unit {0}
-Laid_out w a j (Err e) = Unit {0}
+LaidOut w a j (Ok None) = Unit {0}
+LaidOut w a j (Err e) = Unit {0}
 
 -- the head of a beat's message; a denial counts only with denied
 abbrev pub head_of : ResponseBeat → Sideband → ResponseHead

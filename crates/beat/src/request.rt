@@ -3,7 +3,7 @@ ghost use Rattle.message.specs.Operation.{carries_data};
 ghost use Rattle.message.specs.Request.{request};
 ghost use Rattle.beat.specs.Width.{width_bytes};
 ghost use Rattle.beat.specs.Lanes.{beat_count, buffer_after};
-ghost use Rattle.beat.specs.Request.{head_of, request_beat, cut_request, Laid_out, same_head, lane_mask_fits, admitted, judged, Due, Stands, Began, Went, LanesRead};
+ghost use Rattle.beat.specs.Request.{head_of, request_beat, cut_request, LaidOut, same_head, lane_mask_fits, admitted, judged, Due, Stands, Began, Went, LanesRead};
 
 use crate::begun::Begun;
 use crate::lanes::{Lanes, beat_count};
@@ -36,7 +36,7 @@ impl RequestBeat {
         index: usize,
     ) -> Result<Option<RequestBeat>, Refusal>
         ensures value { result ≡ cut_request width (request head «data».now) index }
-        ensures lanes { Laid_out width (request head «data».now) index result }
+        ensures lanes { LaidOut width (request head «data».now) index result }
     {
         let width = Width::new(width)?;
         let operation = head.check(data)?;

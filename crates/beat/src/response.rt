@@ -2,7 +2,7 @@ ghost use Rattle.std.specs.Prelude.{◌≡◌, ◌+◌, ◌%◌, ◌^◌, ◌<�
 ghost use Rattle.message.specs.Response.{response, response_carries_data};
 ghost use Rattle.beat.specs.Width.{width_bytes};
 ghost use Rattle.beat.specs.Lanes.{beat_count, buffer_after};
-ghost use Rattle.beat.specs.Response.{head_of, beside, heard, response_lanes, response_beat, cut_response, Laid_out, same_head, corrupt_fits, admitted, judged, Due, Stands, Began, Went, LanesRead};
+ghost use Rattle.beat.specs.Response.{head_of, beside, heard, response_lanes, response_beat, cut_response, LaidOut, same_head, corrupt_fits, admitted, judged, Due, Stands, Began, Went, LanesRead};
 
 use crate::begun::Begun;
 use crate::lanes::{Lanes, beat_count};
@@ -53,7 +53,7 @@ impl ResponseBeat {
         index: usize,
     ) -> Result<Option<ResponseBeat>, Refusal>
         ensures value { result ≡ cut_response width (response head «data».now) index }
-        ensures lanes { Laid_out width (response head «data».now) index result }
+        ensures lanes { LaidOut width (response head «data».now) index result }
     {
         let width = Width::new(width)?;
         let opcode = head.check(data)?;

@@ -57,6 +57,7 @@ placed_parts opcode param size address o h =
     let f = fitted_parts a.0 o size address a.2 in
     (a.1 ∙ ap Ok f.2, size_small (atomic a.0) size f.0, eqb-true (address % 2 ^ size) 0 f.1)
 
+-- an accepted place has a legal size
 pub placed_size : (opcode param size address : ℕ) (o : Operation) → placed opcode param size address ≡ Ok o → size ≤ 6
 placed_size opcode param size address o h = (placed_parts opcode param size address o h).1
 
