@@ -10,8 +10,10 @@ use Rattle.message.specs.declared.operation.Operation.{Operation}
 use Rattle.message.specs.declared.request.RequestHead.{RequestHead}
 use Rattle.message.specs.Bits.{bit}
 use Rattle.message.specs.Operation.{operation_of, has_data, carries_data}
-use Rattle.message.specs.Request.{Request, Legal, placed, whole, data_length}
-use Rattle.message.proofs.Judged.{accepted_before, accepted_by, placed_parts}
+use Rattle.message.specs.Request.{Request, Legal, operation_kinds, whole, data_length}
+use Rattle.message.specs.Kind.{placed}
+use Rattle.message.specs.Sizes.{size_small}
+use Rattle.message.proofs.Placed.{accepted_before, accepted_by, placed_parts}
 use Rattle.beat.specs.declared.begun.Begun.{Begun}
 use Rattle.beat.specs.declared.begun.Begun.TheVariants.{Whole, Half}
 use Rattle.beat.specs.declared.request.RequestBeat.{RequestBeat}
@@ -28,7 +30,7 @@ use Rattle.beat.proofs.Widths.{Shape, shape}
 -- what is known of a beat that is not refused
 pub record Fit (first : Option RequestHead) (w : Width) (b : RequestBeat) (room : ℕ) (o : Operation) : Type 0 where
   pub operation : operation_of b.opcode b.param ≡ Ok o
-  pub place : placed b.opcode b.param b.size b.address ≡ Ok o
+  pub place : placed operation_kinds b.opcode b.param b.size b.address ≡ Ok o
   pub size : b.size ≤ 6
   pub aligned : b.address % 2 ^ b.size ≡ 0
   pub same : same_head first b ≡ true
@@ -38,18 +40,18 @@ pub record Fit (first : Option RequestHead) (w : Width) (b : RequestBeat) (room 
 pub fit : (first : Option RequestHead) (w : Width) (b : RequestBeat) (room : ℕ) (o : Operation) → judged first w b room ≡ Ok o → Fit first w b room o
 unfolding judged
 fit first w b room o h =
-    let a = accepted_before (placed b.opcode b.param b.size b.address) (λ p. admitted p first w b room) o h in
+    let a = accepted_before (placed operation_kinds b.opcode b.param b.size b.address) (λ p. admitted p first w b room) o h in
     let p = a.0 in
     let s = accepted_by (same_head first b) no.HeadDiffers (cond (not (lane_mask_fits p w b)) (Err no.Mask) (cond (not (leb (data_length p b.size) room)) (Err no.BufferShort) (Ok p))) o a.2 in
     let m = accepted_by (lane_mask_fits p w b) no.Mask (cond (not (leb (data_length p b.size) room)) (Err no.BufferShort) (Ok p)) o s.1 in
     let r = accepted_by (leb (data_length p b.size) room) no.BufferShort (Ok p) o m.1 in
     let is : p ≡ o = cc in
-    let parts = placed_parts b.opcode b.param b.size b.address o (a.1 ∙ ap Ok is) in
+    let parts = placed_parts operation_kinds b.opcode b.param b.size b.address o (a.1 ∙ ap Ok is) in
     record {
-      operation = parts.0;
+      operation = parts.of;
       place = a.1 ∙ ap Ok is;
-      size = parts.1;
-      aligned = parts.2;
+      size = size_small o b.size parts.fits;
+      aligned = parts.aligned;
       same = s.0;
       mask = subst (λ x. lane_mask_fits x w b ≡ true) is m.0;
       roomy = subst (λ x. data_length x b.size ≤ room) is (leb-true (data_length p b.size) room r.0);

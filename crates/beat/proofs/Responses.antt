@@ -9,9 +9,10 @@ use Rattle.message.specs.declared.refusal.Refusal.TheVariants as no
 use Rattle.message.specs.declared.response.ResponseHead.{ResponseHead}
 use Rattle.message.specs.declared.response.ResponseOpcode.{ResponseOpcode}
 use Rattle.message.specs.declared.response.ResponseOpcode.TheVariants.{AccessAck, AccessAckData, HintAck}
-use Rattle.message.specs.Response.{Response, WholeResponse, response_of, response_placed, response_has_data, response_carries_data, response_length}
-use Rattle.message.proofs.Judged.{accepted_before, accepted_by}
-use Rattle.message.proofs.Responding.{response_placed_parts}
+use Rattle.message.specs.Response.{Response, WholeResponse, response_of, response_kinds, response_has_data, response_carries_data, response_length}
+use Rattle.message.specs.Kind.{placed}
+use Rattle.message.specs.Sizes.{response_small}
+use Rattle.message.proofs.Placed.{accepted_before, accepted_by, placed_parts}
 use Rattle.beat.specs.declared.begun.Begun.{Begun}
 use Rattle.beat.specs.declared.begun.Begun.TheVariants.{Whole}
 use Rattle.beat.specs.declared.response.ResponseBeat.{ResponseBeat}
@@ -29,7 +30,7 @@ use Rattle.beat.proofs.Widths.{Shape, shape}
 -- what is known of a beat that is not refused
 pub record Fit (first : Option ResponseHead) (b : ResponseBeat) (s : Sideband) (room : ℕ) (k : ResponseOpcode) : Type 0 where
   pub opcode : response_of b.opcode b.param ≡ Ok k
-  pub place : response_placed b.opcode b.param b.size s.address ≡ Ok k
+  pub place : placed response_kinds b.opcode b.param b.size s.address ≡ Ok k
   pub size : b.size ≤ 6
   pub aligned : s.address % 2 ^ b.size ≡ 0
   pub same : same_head first b s ≡ true
@@ -39,18 +40,18 @@ pub record Fit (first : Option ResponseHead) (b : ResponseBeat) (s : Sideband) (
 pub fit : (first : Option ResponseHead) (b : ResponseBeat) (s : Sideband) (room : ℕ) (k : ResponseOpcode) → judged first b s room ≡ Ok k → Fit first b s room k
 unfolding judged
 fit first b s room k h =
-    let a = accepted_before (response_placed b.opcode b.param b.size s.address) (λ p. admitted p first b s room) k h in
+    let a = accepted_before (placed response_kinds b.opcode b.param b.size s.address) (λ p. admitted p first b s room) k h in
     let p = a.0 in
     let d = accepted_by (same_head first b s) no.HeadDiffers (cond (not (corrupt_fits p b)) (Err no.Corrupt) (cond (not (leb (response_length p b.size) room)) (Err no.BufferShort) (Ok p))) k a.2 in
     let m = accepted_by (corrupt_fits p b) no.Corrupt (cond (not (leb (response_length p b.size) room)) (Err no.BufferShort) (Ok p)) k d.1 in
     let r = accepted_by (leb (response_length p b.size) room) no.BufferShort (Ok p) k m.1 in
     let is : p ≡ k = cc in
-    let parts = response_placed_parts b.opcode b.param b.size s.address k (a.1 ∙ ap Ok is) in
+    let parts = placed_parts response_kinds b.opcode b.param b.size s.address k (a.1 ∙ ap Ok is) in
     record {
-      opcode = parts.0;
+      opcode = parts.of;
       place = a.1 ∙ ap Ok is;
-      size = parts.1;
-      aligned = parts.2;
+      size = response_small k b.size parts.fits;
+      aligned = parts.aligned;
       same = d.0;
       corrupt = subst (λ x. corrupt_fits x b ≡ true) is m.0;
       roomy = subst (λ x. response_length x b.size ≤ room) is (leb-true (response_length p b.size) room r.0);
@@ -58,9 +59,7 @@ fit first b s room k h =
 
 -- how many bytes of data a response carries, by whether it has any
 pub length_by : (k : ResponseOpcode) (size : ℕ) → response_length k size ≡ cond (response_has_data k) (2 ^ size) 0
-length_by AccessAck size = refl
-length_by AccessAckData size = refl
-length_by HintAck size = refl
+length_by k size = refl
 
 pub data_room : (k : ResponseOpcode) (size room : ℕ) → response_has_data k ≡ true → response_length k size ≤ room → 2 ^ size ≤ room
 data_room k size room d le = subst (λ n. n ≤ room) (length_by k size ∙ cond-true (response_has_data k) (2 ^ size) 0 d) le

@@ -6,8 +6,9 @@ use Rattle.message.specs.declared.operation.Operation.{Operation}
 use Rattle.message.specs.declared.request.RequestHead.{RequestHead}
 use Rattle.message.specs.Bits.{bit}
 use Rattle.message.specs.Refusal.{unless_refused}
+use Rattle.message.specs.Kind.{placed}
 use Rattle.message.specs.Operation.{has_data, carries_data}
-use Rattle.message.specs.Request.{Request, placed, checked, partial, whole, data_length}
+use Rattle.message.specs.Request.{Request, operation_kinds, checked, partial, whole, data_length}
 use Rattle.beat.specs.declared.begun.Begun.{Begun}
 use Rattle.beat.specs.declared.begun.Begun.TheVariants.{Whole, Half}
 use Rattle.beat.specs.declared.request.RequestBeat.{RequestBeat}
@@ -84,7 +85,7 @@ admitted o first w b room =
 -- that it differs from the beats before it, its lane mask, and the room for the data
 unfoldable pub judged : Option RequestHead → Width → RequestBeat → ℕ → Result Operation Refusal
 judged first w b room =
-    unless_refused (placed b.opcode b.param b.size b.address) (λ o. admitted o first w b room)
+    unless_refused (placed operation_kinds b.opcode b.param b.size b.address) (λ o. admitted o first w b room)
 
 -- beat j of a message with data is due, the mask of the bytes before it being known
 pub record Due (w : Width) (h : RequestHead) (j : ℕ) : Type 0 where

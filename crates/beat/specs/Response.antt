@@ -5,7 +5,8 @@ use Rattle.message.specs.declared.refusal.Refusal.TheVariants as no
 use Rattle.message.specs.declared.response.ResponseHead.{ResponseHead}
 use Rattle.message.specs.declared.response.ResponseOpcode.{ResponseOpcode}
 use Rattle.message.specs.Refusal.{unless_refused}
-use Rattle.message.specs.Response.{Response, response_placed, response_checked, response_has_data, response_carries_data, response_length, not_denied}
+use Rattle.message.specs.Kind.{placed}
+use Rattle.message.specs.Response.{Response, response_kinds, response_checked, response_has_data, response_carries_data, response_length, not_denied}
 use Rattle.beat.specs.declared.begun.Begun.{Begun}
 use Rattle.beat.specs.declared.begun.Begun.TheVariants.{Whole, Half}
 use Rattle.beat.specs.declared.response.ResponseBeat.{ResponseBeat}
@@ -103,7 +104,7 @@ admitted k first b s room =
 -- that it differs from the beats before it, corrupt, and the room for the data
 unfoldable pub judged : Option ResponseHead → ResponseBeat → Sideband → ℕ → Result ResponseOpcode Refusal
 judged first b s room =
-    unless_refused (response_placed b.opcode b.param b.size s.address) (λ k. admitted k first b s room)
+    unless_refused (placed response_kinds b.opcode b.param b.size s.address) (λ k. admitted k first b s room)
 
 -- beat j of a response with data is due
 pub record Due (w : Width) (h : ResponseHead) (j : ℕ) : Type 0 where

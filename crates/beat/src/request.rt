@@ -9,9 +9,10 @@ use crate::begun::Begun;
 use crate::lanes::{Lanes, beat_count};
 use crate::width::Width;
 use burst::Burst;
+use message::kind::{Kind, place};
 use message::operation::Operation;
 use message::refusal::Refusal;
-use message::request::{RequestHead, place, whole_mask};
+use message::request::{RequestHead, whole_mask};
 
 pub mod burst;
 
@@ -101,7 +102,7 @@ fn judge(
 ) -> Result<Operation, Refusal>
     ensures { result ≡ judged first width beat room }
 {
-    let operation = place(beat.opcode, beat.param, beat.size, beat.address)?;
+    let operation: Operation = place(beat.opcode, beat.param, beat.size, beat.address)?;
     admit(operation, first, width, beat, room)
 }
 

@@ -8,8 +8,9 @@ use crate::begun::Begun;
 use crate::lanes::{Lanes, beat_count};
 use crate::width::Width;
 use burst::Burst;
+use message::kind::{Kind, place};
 use message::refusal::Refusal;
-use message::response::{Denial, ResponseHead, ResponseOpcode, place_response};
+use message::response::{Denial, ResponseHead, ResponseOpcode};
 
 pub mod burst;
 
@@ -138,7 +139,7 @@ fn judge(
 ) -> Result<ResponseOpcode, Refusal>
     ensures { result ≡ judged first beat beside room }
 {
-    let opcode = place_response(beat.opcode, beat.param, beat.size, beside.address)?;
+    let opcode: ResponseOpcode = place(beat.opcode, beat.param, beat.size, beside.address)?;
     admit(opcode, first, beat, beside, room)
 }
 

@@ -25,7 +25,7 @@ fn a_narrow_put_lies_in_the_lanes_of_its_addresses(rt: HostRuntime) -> Result<()
     match RequestBeat::cut(put, &[0x11, 0x22], 3, 0) {
         Ok(_) => Err(Fail::new("a width of 3")),
         Err(refusal) => {
-            assert!(rt; refusal.number() == 16);
+            assert!(rt; u8::from(refusal) == 16);
             Ok(())
         },
     }
@@ -89,7 +89,7 @@ fn denied_data_are_read_as_zeros(rt: HostRuntime) -> Result<(), Fail> {
             Ok(begun) => ended(begun),
             Err(back) => {
                 let (refusal, burst) = back;
-                number = refusal.number();
+                number = u8::from(refusal);
                 match burst.next(noisy, beside, &mut buffer) {
                     Ok(begun) => ended(begun),
                     Err(again) => {

@@ -2,6 +2,7 @@ ghost use Rattle.std.specs.Prelude.{◌≡◌};
 ghost use Rattle.bringup.specs.Show.{covered};
 
 use message::address_set::AddressSet;
+use message::kind::Kind;
 use message::operation::Operation;
 use message::request::RequestHead;
 use std::fmt::Display;
@@ -55,7 +56,7 @@ fn show_verdict(rt: &impl Print, verdict: Verdict) -> io::Result<()> {
     match verdict {
         Verdict::Legal(_, Some(region)) => println!(rt; "legal, in {}", name(region)),
         Verdict::Legal(_, None) => println!(rt; "legal, in no region"),
-        Verdict::Refused(refusal) => println!(rt; "refused {}: {refusal}", refusal.number()),
+        Verdict::Refused(refusal) => println!(rt; "refused {}: {refusal}", u8::from(refusal)),
     }
 }
 

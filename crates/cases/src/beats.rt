@@ -10,7 +10,7 @@ pub struct BeatCases {
     pub beat_of_2_at_6: Result<Option<RequestBeat>, Refusal>,
 }
 
-#[tactic(auto, unfolding(message::specs::Request::placed, message::specs::Request::checked))]
+#[tactic(auto, unfolding(message::specs::Kind::placed, message::specs::Request::checked))]
 pub fn beat_cases() -> BeatCases
     ensures { WorkedBeats result }
 {

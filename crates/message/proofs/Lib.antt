@@ -1,3 +1,4 @@
+pub mod Placed
 pub mod Sizes
 pub mod Digits
 pub mod Judged

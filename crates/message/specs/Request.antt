@@ -1,5 +1,5 @@
 -- Requests, and which of them are legal.
-use Rattle.std.specs.Prelude.{◌≡◌, ℕ, ◌-◌, ◌*◌, ◌%◌, ◌^◌, ◌<◌, ◌≤◌, Bool, true, false, cond, not, ◌||◌, ◌⊎◌, List, length, Ok, Err, Result, ◌==◌, nat_le, nat_lt}
+use Rattle.std.specs.Prelude.{◌≡◌, ℕ, ◌-◌, ◌*◌, ◌^◌, ◌<◌, ◌≤◌, Bool, true, false, cond, not, ◌||◌, ◌⊎◌, List, length, Ok, Err, Result, ◌==◌, nat_le, nat_lt}
 use Rattle.message.specs.declared.refusal.Refusal.{Refusal}
 use Rattle.message.specs.declared.refusal.Refusal.TheVariants as no
 use Rattle.message.specs.declared.operation.Operation.{Operation}
@@ -7,6 +7,7 @@ use Rattle.message.specs.declared.operation.Operation.TheVariants.{PutFullData, 
 use Rattle.message.specs.declared.request.RequestHead.{RequestHead}
 use Rattle.message.specs.Bits.{bit}
 use Rattle.message.specs.Refusal.{unless_refused}
+use Rattle.message.specs.Kind.{Kinds, length_of, placed, measured}
 use Rattle.message.specs.Operation.{operation_of, has_data}
 
 -- a request: its head, and the bytes of its data in the order of their addresses
@@ -40,10 +41,6 @@ partial (Intent p) = false
 abbrev pub size_fits : Operation → ℕ → Bool
 size_fits o size = cond (atomic o) (size == 2 || size == 3) (nat_le size 6)
 
--- the address is a multiple of the bytes that the message covers
-abbrev pub aligned : ℕ → ℕ → Bool
-aligned address size = address % 2 ^ size == 0
-
 -- the mask with a bit for each byte of a message
 abbrev pub whole : ℕ → ℕ
 whole size = 2 ^ (2 ^ size) - 1
@@ -52,31 +49,23 @@ whole size = 2 ^ (2 ^ size) - 1
 abbrev pub mask_fits : Operation → ℕ → ℕ → Bool
 mask_fits o size mask = cond (partial o) (nat_lt mask (2 ^ (2 ^ size))) (mask == 2 ^ (2 ^ size) - 1)
 
+-- the operations as kinds of messages
+abbrev pub operation_kinds : Kinds Operation
+operation_kinds = record { of = operation_of; fits = size_fits; carries = has_data }
+
 -- how many bytes of data a request carries
 abbrev pub data_length : Operation → ℕ → ℕ
-data_length o size = cond (has_data o) (2 ^ size) 0
-
--- the refusals of an operation at an address that need no mask and no data
-abbrev pub fitted : Operation → ℕ → ℕ → Result Operation Refusal
-fitted o size address =
-    cond (not (size_fits o size)) (Err no.Size) (
-    cond (not (aligned address size)) (Err no.Address) (Ok o))
-
--- the operation of a request at an address, or the first refusal before the mask is judged
-unfoldable pub placed : ℕ → ℕ → ℕ → ℕ → Result Operation Refusal
-placed opcode param size address = unless_refused (operation_of opcode param) (λ o. fitted o size address)
+data_length = length_of operation_kinds
 
 -- the refusals that judge the mask and the data of an operation
 abbrev pub filled : Operation → ℕ → ℕ → ℕ → Result Operation Refusal
-filled o size mask count =
-    cond (not (mask_fits o size mask)) (Err no.Mask) (
-    cond (not (count == data_length o size)) (Err no.Data) (Ok o))
+filled o size mask count = cond (not (mask_fits o size mask)) (Err no.Mask) (measured operation_kinds o size count)
 
 -- the operation of a legal request, or the first refusal that applies
 unfoldable pub checked : Request → Result Operation Refusal
 checked q =
     unless_refused
-    (placed q.head.opcode q.head.param q.head.size q.head.address)
+    (placed operation_kinds q.head.opcode q.head.param q.head.size q.head.address)
     (λ o. filled o q.head.size q.head.mask (length q.bytes))
 
 -- what it means that a request for the operation o is legal

@@ -1,5 +1,5 @@
 -- Responses, and which of them answer a request.
-use Rattle.std.specs.Prelude.{◌≡◌, ℕ, ◌*◌, ◌^◌, ◌≤◌, Bool, true, false, cond, not, List, [], ◌∷◌, length, replicate, Ok, Err, Result, ◌==◌, nat_le}
+use Rattle.std.specs.Prelude.{◌≡◌, ℕ, ◌*◌, ◌^◌, ◌≤◌, Bool, true, false, cond, List, [], ◌∷◌, length, replicate, Ok, Err, Result, ◌==◌, nat_le}
 use Rattle.std.specs.Option.{ok_or}
 use Rattle.std.specs.List.{slice_get}
 use Rattle.message.specs.declared.refusal.Refusal.{Refusal}
@@ -12,7 +12,7 @@ use Rattle.message.specs.declared.response.ResponseOpcode.TheVariants.{AccessAck
 use Rattle.message.specs.declared.response.Denial.{Denial}
 use Rattle.message.specs.declared.response.ResponseHead.{ResponseHead}
 use Rattle.message.specs.Refusal.{unless_refused}
-use Rattle.message.specs.Request.{aligned}
+use Rattle.message.specs.Kind.{Kinds, length_of, placed, measured}
 
 -- a response: its head, and the bytes of its data in the order of their addresses
 pub record Response : Type 0 where
@@ -44,12 +44,6 @@ response_has_data AccessAck = false
 response_has_data AccessAckData = true
 response_has_data HintAck = false
 
--- how many bytes of data a response carries
-abbrev pub response_length : ResponseOpcode → ℕ → ℕ
-response_length AccessAck size = 0
-response_length AccessAckData size = 2 ^ size
-response_length HintAck size = 0
-
 -- the responses, by their opcodes from 0 on
 abbrev pub responses : List ResponseOpcode
 responses = AccessAck ∷ AccessAckData ∷ HintAck ∷ []
@@ -64,27 +58,24 @@ abbrev pub response_carries_data : ℕ → ℕ → Bool
 response_carries_data opcode param =
     elim (response_of opcode param) [ Ok k ↦ response_has_data k | Err e ↦ false ]
 
--- the refusals of a response at an address that need no data
-abbrev pub response_fitted : ResponseOpcode → ℕ → ℕ → Result ResponseOpcode Refusal
-response_fitted k size address =
-    cond (not (nat_le size 6)) (Err no.Size) (
-    cond (not (aligned address size)) (Err no.Address) (Ok k))
+-- a response has any of the seven sizes
+abbrev pub response_fits : ResponseOpcode → ℕ → Bool
+response_fits k size = nat_le size 6
 
--- the opcode of a response at an address, or the first refusal before the data is judged
-unfoldable pub response_placed : ℕ → ℕ → ℕ → ℕ → Result ResponseOpcode Refusal
-response_placed opcode param size address =
-    unless_refused (response_of opcode param) (λ k. response_fitted k size address)
+-- the opcodes of responses as kinds of messages
+abbrev pub response_kinds : Kinds ResponseOpcode
+response_kinds = record { of = response_of; fits = response_fits; carries = response_has_data }
 
--- the refusal that judges the data of a response
-abbrev pub response_filled : ResponseOpcode → ℕ → ℕ → Result ResponseOpcode Refusal
-response_filled k size count = cond (not (count == response_length k size)) (Err no.Data) (Ok k)
+-- how many bytes of data a response carries
+abbrev pub response_length : ResponseOpcode → ℕ → ℕ
+response_length = length_of response_kinds
 
 -- the opcode of a response with data of the right length, or the first refusal that applies
 unfoldable pub response_checked : Response → Result ResponseOpcode Refusal
 response_checked a =
     unless_refused
-    (response_placed a.head.opcode a.head.param a.head.size a.head.address)
-    (λ k. response_filled k a.head.size (length a.bytes))
+    (placed response_kinds a.head.opcode a.head.param a.head.size a.head.address)
+    (λ k. measured response_kinds k a.head.size (length a.bytes))
 
 -- what it means that a response of the opcode k has a right head, and data of the right length
 pub record WholeResponse (k : ResponseOpcode) (a : Response) : Type 0 where

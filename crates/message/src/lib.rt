@@ -2,6 +2,7 @@
 #![tactic(auto)]
 
 pub mod address_set;
+pub mod kind;
 pub mod operation;
 pub mod refusal;
 pub mod request;

@@ -1,7 +1,9 @@
 ghost use Rattle.std.specs.Prelude.{◌≡◌};
-ghost use Rattle.message.specs.Operation.{operation_of, has_data};
+ghost use Rattle.message.specs.Request.{operation_kinds};
+ghost use Rattle.message.specs.Sizes.{size_small};
 ghost use Rattle.message.specs.Response.{response_to};
 
+use crate::kind::Kind;
 use crate::refusal::Refusal;
 use crate::response::ResponseOpcode;
 use std::fmt;
@@ -40,11 +42,13 @@ pub enum Operation {
     Intent(Prefetch),
 }
 
-impl Operation {
+impl Kind for Operation {
+    ghost kinds = { operation_kinds };
+
+    ghost small = { size_small };
+
     // The one place that knows the codes of requests.
-    pub fn read(opcode: u8, param: u8) -> Result<Operation, Refusal>
-        ensures { result ≡ operation_of opcode param }
-    {
+    fn read(opcode: u8, param: u8) -> Result<Operation, Refusal> {
         match (opcode, param) {
             (0, 0) => Ok(Operation::PutFullData),
             (1, 0) => Ok(Operation::PutPartialData),
@@ -65,13 +69,19 @@ impl Operation {
         }
     }
 
-    // Whether its requests carry data.
-    pub fn has_data(self) -> bool
-        ensures { result ≡ has_data self }
-    {
-        !matches!(self, Operation::Get | Operation::Intent(_))
+    fn fits(self, size: u8) -> bool {
+        match self {
+            Operation::ArithmeticData(_) | Operation::LogicalData(_) => size == 2 || size == 3,
+            _ => size <= 6,
+        }
     }
 
+    fn has_data(self) -> bool {
+        !matches!(self, Operation::Get | Operation::Intent(_))
+    }
+}
+
+impl Operation {
     // The response that the request gets.
     pub fn response(self) -> ResponseOpcode
         ensures { result ≡ response_to self }

@@ -1,6 +1,8 @@
 ghost use Rattle.std.specs.Prelude.{◌≡◌, ℕ, ◌≤◌, true, false, List, length, replicate, Decides};
-ghost use Rattle.message.specs.Response.{response, response_to, response_number, response_has_data, response_of, response_fitted, response_placed, response_length, response_filled, response_checked, not_denied, head_to, Answers, HeadsAlike, Alike, TellsWhole};
+ghost use Rattle.message.specs.Sizes.{response_small};
+ghost use Rattle.message.specs.Response.{response, response_to, response_kinds, response_number, response_length, response_checked, not_denied, head_to, Answers, Alike, TellsWhole};
 
+use crate::kind::{Kind, measure, place};
 use crate::operation::Operation;
 use crate::refusal::Refusal;
 use crate::request::RequestHead;
@@ -12,17 +14,22 @@ pub enum ResponseOpcode {
     HintAck = 2,
 }
 
-impl ResponseOpcode {
-    pub fn number(self) -> u8
-        ensures { result ≡ response_number self }
-    {
-        self as u8
+// The number that a response carries for its opcode.
+impl From<ResponseOpcode> for u8 {
+    ghost from_gives = { λ opcode number. number ≡ response_number opcode };
+
+    fn from(opcode: ResponseOpcode) -> u8 {
+        opcode as u8
     }
+}
+
+impl Kind for ResponseOpcode {
+    ghost kinds = { response_kinds };
+
+    ghost small = { response_small };
 
     // The one place that knows the codes of responses.
-    pub fn read(opcode: u8, param: u8) -> Result<ResponseOpcode, Refusal>
-        ensures { result ≡ response_of opcode param }
-    {
+    fn read(opcode: u8, param: u8) -> Result<ResponseOpcode, Refusal> {
         match (opcode, param) {
             (0, 0) => Ok(ResponseOpcode::AccessAck),
             (1, 0) => Ok(ResponseOpcode::AccessAckData),
@@ -32,48 +39,13 @@ impl ResponseOpcode {
         }
     }
 
-    // Whether the response carries data.
-    pub fn has_data(self) -> bool
-        ensures { result ≡ response_has_data self }
-    {
+    fn fits(self, size: u8) -> bool {
+        size <= 6
+    }
+
+    fn has_data(self) -> bool {
         matches!(self, ResponseOpcode::AccessAckData)
     }
-}
-
-// The opcode of a response to an address, or the first of the refusals that need no data.
-pub fn place_response(
-    opcode: u8,
-    param: u8,
-    size: u8,
-    address: u32,
-) -> Result<ResponseOpcode, Refusal>
-    ensures { result ≡ response_placed opcode param size address }
-{
-    let response = ResponseOpcode::read(opcode, param)?;
-    fit(response, size, address)
-}
-
-fn fit(response: ResponseOpcode, size: u8, address: u32) -> Result<ResponseOpcode, Refusal>
-    ensures { result ≡ response_fitted response size address }
-{
-    if size > 6 {
-        return Err(Refusal::Size);
-    }
-    if address % (1 << size) != 0 {
-        return Err(Refusal::Address);
-    }
-    Ok(response)
-}
-
-fn fill(response: ResponseOpcode, size: u8, count: usize) -> Result<ResponseOpcode, Refusal>
-    requires { size ≤ 6 }
-    ensures { result ≡ response_filled response size count }
-{
-    let length = if response.has_data() { 1 << size } else { 0 };
-    if count != length {
-        return Err(Refusal::Data);
-    }
-    Ok(response)
 }
 
 // Why a request was denied, at which address, and by which agent: all 0 where it was not.
@@ -92,7 +64,8 @@ impl Denial {
     };
 }
 
-// A response without its data: plain numbers, as they come.
+// A response without its data: plain numbers as they come, also wrong ones. So `denied` stands beside the denial, and
+// not an `Option`: that could not hold a head that is not denied and has a denial, and so would ask more of callers.
 #[derive(Clone, Copy)]
 pub struct ResponseHead {
     pub opcode: u8,
@@ -132,36 +105,29 @@ impl ResponseHead {
     }
 
     // The opcode of a response whose opcode, param, size, address and length of data are right, or the first refusal.
+    #[tactic(auto, using(crate::proofs::Responding::placed_size), unfolding(crate::specs::Response::response_checked))]
     pub fn check(self, data: &[u8]) -> Result<ResponseOpcode, Refusal>
         ensures value { result ≡ response_checked (response self «data».now) }
         ensures whole { TellsWhole (response self «data».now) result }
     {
-        let response = place_response(self.opcode, self.param, self.size, self.address)?;
-        fill(response, self.size, data.len())
+        let opcode = place(self.opcode, self.param, self.size, self.address)?;
+        measure(opcode, self.size, data.len())
     }
 
     // Whether two responses, each with its data, agree in opcode, size, denied and data.
     pub fn alike(self, data: &[u8], other: ResponseHead, other_data: &[u8]) -> bool
         ensures { Decides result (Alike (response self «data».now) (response other other_data.now)) }
     {
-        heads_alike(self, other) && data == other_data
+        (self.opcode, self.size, self.denied) == (other.opcode, other.size, other.denied)
+            && data == other_data
     }
-}
-
-fn heads_alike(one: ResponseHead, other: ResponseHead) -> bool
-    ensures { Decides result (HeadsAlike one other) }
-{
-    if one.opcode != other.opcode || one.size != other.size {
-        return false;
-    }
-    one.denied == other.denied
 }
 
 fn answer(operation: Operation, request: RequestHead, denied: bool, denial: Denial) -> ResponseHead
     ensures { result ≡ head_to operation request denied denial }
 {
     ResponseHead {
-        opcode: operation.response().number(),
+        opcode: u8::from(operation.response()),
         param: 0,
         size: request.size,
         source: request.source,

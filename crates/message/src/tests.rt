@@ -34,7 +34,7 @@ fn requests_are_judged_by_the_table(rt: HostRuntime) {
         let data = [0; 64];
         let told = match head.check(&data[0..bytes.min(64)]) {
             Ok(_) => 0,
-            Err(refusal) => refusal.number(),
+            Err(refusal) => u8::from(refusal),
         };
         assert_eq!(rt; told, number);
     }

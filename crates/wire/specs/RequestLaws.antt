@@ -12,7 +12,8 @@ use Rattle.std.proofs.lemmas.Bool.{eqb-true, eq-eqb, le-leb, cond-true, cond-fal
 use Rattle.message.specs.declared.operation.Operation.{Operation}
 use Rattle.message.specs.declared.operation.Operation.TheVariants.{PutFullData, PutPartialData, ArithmeticData, LogicalData, Get, Intent}
 use Rattle.message.specs.Operation.{has_data}
-use Rattle.message.specs.Request.{Request, request, Legal, placed, partial, whole, data_length}
+use Rattle.message.specs.Kind.{placed}
+use Rattle.message.specs.Request.{Request, request, Legal, operation_kinds, partial, whole, data_length}
 use Rattle.message.proofs.Judged.{legal_placed, legal_below, legal_full, legal_from}
 use Rattle.beat.specs.declared.request.RequestBeat.{RequestBeat}
 use Rattle.beat.specs.declared.width.Width.{Width}
@@ -157,7 +158,7 @@ module _ (w : Width) (o : Operation) (q : Request) (l : Legal o q) (room : ℕ) 
   admitted_one b c j eb ec em le =
       let size : c.size ≡ q.head.size = ap (λ h. h.size) ec in
       let address : c.address ≡ q.head.address = ap (λ h. h.address) ec in
-      let place : placed c.opcode c.param c.size c.address ≡ Ok o = (λ i. placed (ec i).opcode (ec i).param (ec i).size (ec i).address) ∙ legal_placed q o l in
+      let place : placed operation_kinds c.opcode c.param c.size c.address ≡ Ok o = (λ i. placed operation_kinds (ec i).opcode (ec i).param (ec i).size (ec i).address) ∙ legal_placed q o l in
       let heads = eb ∙ sym ec in
       let same_opcode = eq-eqb b.opcode c.opcode (ap (λ h. h.opcode) heads) in
       let same-param = eq-eqb b.param c.param (ap (λ h. h.param) heads) in

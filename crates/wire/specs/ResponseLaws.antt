@@ -12,7 +12,8 @@ use Rattle.std.proofs.lemmas.List.{replicate-append-replicate, take_all, nil_fro
 use Rattle.std.proofs.lemmas.Bool.{eq-eqb, le-leb, cond-true, cond-false}
 use Rattle.message.specs.declared.response.ResponseHead.{ResponseHead}
 use Rattle.message.specs.declared.response.ResponseOpcode.{ResponseOpcode}
-use Rattle.message.specs.Response.{Response, response, LegalResponse, response_placed, response_has_data, response_length, not_denied}
+use Rattle.message.specs.Kind.{placed}
+use Rattle.message.specs.Response.{Response, response, LegalResponse, response_kinds, response_has_data, response_length, not_denied}
 use Rattle.message.proofs.Responding.{whole_placed}
 use Rattle.beat.specs.declared.response.ResponseBeat.{ResponseBeat}
 use Rattle.beat.specs.declared.width.Width.{Width}
@@ -154,7 +155,7 @@ module _ (w : Width) (k : ResponseOpcode) (a : Response) (l : LegalResponse k a)
   admitted_one : (b c : Beat) → Heads k a.head b → Heads k a.head c → judged (Some (head_of b.0 b.1)) c.0 c.1 room ≡ Ok k
   unfolding judged
   admitted_one b c eb ec =
-      let place : response_placed c.0.opcode c.0.param c.0.size c.1.address ≡ Ok k = (λ i. response_placed (ec.opcode i) (ec.param i) (ec.size i) (ec.address i)) ∙ whole_placed a k l.whole in
+      let place : placed response_kinds c.0.opcode c.0.param c.0.size c.1.address ≡ Ok k = (λ i. placed response_kinds (ec.opcode i) (ec.param i) (ec.size i) (ec.address i)) ∙ whole_placed a k l.whole in
       let same_opcode = eq-eqb b.0.opcode c.0.opcode (eb.opcode ∙ sym ec.opcode) in
       let same-param = eq-eqb b.0.param c.0.param (eb.param ∙ sym ec.param) in
       let same_size = eq-eqb b.0.size c.0.size (eb.size ∙ sym ec.size) in

@@ -39,7 +39,7 @@ fn a_list_tells_where_it_stops(rt: HostRuntime) -> Result<(), Fail> {
     let mut buffer = [0xee; 8];
     assert!(rt; matches!(join::<ChannelA>(&[first], 4, &mut buffer), Ok(None)));
     match join::<ChannelA>(&[first, other], 4, &mut buffer) {
-        Err(stop) => assert!(rt; stop.beat == 1 && stop.refusal.number() == 19),
+        Err(stop) => assert!(rt; stop.beat == 1 && u8::from(stop.refusal) == 19),
         Ok(_) => return Err(Fail::new("the head differs")),
     }
     assert!(rt; buffer[3] == 4 && buffer[4] == 0xee);

@@ -1,6 +1,7 @@
 use Rattle.std.proofs.Common.{ap, rules}
 use Rattle.message.specs.Refusal.{number_of}
-use Rattle.message.specs.Request.{placed, checked}
+use Rattle.message.specs.Kind.{placed}
+use Rattle.message.specs.Request.{checked}
 use Rattle.cases.proofs.worked_cases.Goals as goal
 
 pub returns : goal.returns

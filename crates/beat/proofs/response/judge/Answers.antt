@@ -1,5 +1,5 @@
 use Rattle.std.proofs.Common.{sym, rules}
-use Rattle.message.proofs.Responding.{response_placed_size}
+use Rattle.message.proofs.Responding.{placed_size}
 use Rattle.beat.specs.Response.{judged}
 use Rattle.beat.proofs.response.judge.Goals as goal
 
@@ -10,7 +10,7 @@ returns-in_err-opcode c = search rules
 pub admit-requires : goal.admit-requires
 admit-requires c =
     let b = c.args.beat in
-    response_placed_size b.opcode b.param b.size c.args.beside.address _ (sym c.in_ok-opcode.ensures)
+    placed_size b.opcode b.param b.size c.args.beside.address _ c.in_ok-opcode.ensures
 
 pub returns : goal.returns
 unfolding judged

@@ -1,22 +1,19 @@
-use Rattle.std.proofs.Common.{◌≡◌, sym, rules}
-use Rattle.message.specs.Request.{Request, request, checked}
-use Rattle.message.proofs.Judged.{placed_size, legality}
+use Rattle.std.proofs.Common.{Err, rules}
+use Rattle.message.specs.declared.refusal.Refusal.TheVariants as no
+use Rattle.message.specs.Request.{request, checked}
+use Rattle.message.proofs.Judged.{legality}
 use Rattle.message.proofs.request.RequestHead.check.Goals as goal
 
-pub returns-in_err-operation : goal.returns-in_err-operation
+pub returns-in_err-operation-clause-legal : goal.returns-in_err-operation-clause-legal
 unfolding checked
-returns-in_err-operation c =
-    let q : Request = request c.args.self c.args.data.now in
-    let e : c.from_residual.result ≡ checked q = search rules in
-    record { value = e; legal = legality q c.from_residual.result e }
+returns-in_err-operation-clause-legal c =
+    legality (request c.args.self c.args.data.now) c.from_residual.result (search rules)
 
-pub fill-requires : goal.fill-requires
-fill-requires c =
-    placed_size c.args.self.opcode c.args.self.param c.args.self.size c.args.self.address _ (sym c.in_ok-operation.ensures)
-
-pub returns : goal.returns
+pub returns-then-not-mask_fits-clause-legal : goal.returns-then-not-mask_fits-clause-legal
 unfolding checked
-returns c =
-    let q : Request = request c.args.self c.args.data.now in
-    let e : c.fill.result ≡ checked q = search rules in
-    record { value = e; legal = legality q c.fill.result e }
+returns-then-not-mask_fits-clause-legal c =
+    legality (request c.args.self c.args.data.now) (Err no.Mask) (search rules)
+
+pub returns-clause-legal : goal.returns-clause-legal
+unfolding checked
+returns-clause-legal c = legality (request c.args.self c.args.data.now) c.measure.result (search rules)

@@ -1,22 +1,13 @@
-use Rattle.std.proofs.Common.{◌≡◌, sym, rules}
-use Rattle.message.specs.Response.{Response, response, response_checked}
-use Rattle.message.proofs.Responding.{response_placed_size, wholeness}
+use Rattle.std.proofs.Common.{rules}
+use Rattle.message.specs.Response.{response, response_checked}
+use Rattle.message.proofs.Responding.{wholeness}
 use Rattle.message.proofs.response.ResponseHead.check.Goals as goal
 
-pub returns-in_err-response : goal.returns-in_err-response
+pub returns-in_err-opcode-clause-whole : goal.returns-in_err-opcode-clause-whole
 unfolding response_checked
-returns-in_err-response c =
-    let a : Response = response c.args.self c.args.data.now in
-    let e : c.from_residual.result ≡ response_checked a = search rules in
-    record { value = e; whole = wholeness a c.from_residual.result e }
+returns-in_err-opcode-clause-whole c =
+    wholeness (response c.args.self c.args.data.now) c.from_residual.result (search rules)
 
-pub fill-requires : goal.fill-requires
-fill-requires c =
-    response_placed_size c.args.self.opcode c.args.self.param c.args.self.size c.args.self.address _ (sym c.in_ok-response.ensures)
-
-pub returns : goal.returns
+pub returns-clause-whole : goal.returns-clause-whole
 unfolding response_checked
-returns c =
-    let a : Response = response c.args.self c.args.data.now in
-    let e : c.fill.result ≡ response_checked a = search rules in
-    record { value = e; whole = wholeness a c.fill.result e }
+returns-clause-whole c = wholeness (response c.args.self c.args.data.now) c.measure.result (search rules)
