@@ -12,10 +12,12 @@ pub enum Width {
     Eight,
 }
 
-impl Width {
-    pub fn new(bytes: u8) -> Result<Width, Refusal>
-        ensures { result ≡ width_of bytes }
-    {
+impl TryFrom<u8> for Width {
+    type Error = Refusal;
+
+    ghost try_from_gives = { λ bytes r. r ≡ width_of bytes };
+
+    fn try_from(bytes: u8) -> Result<Width, Refusal> {
         match bytes {
             1 => Ok(Width::One),
             2 => Ok(Width::Two),
@@ -24,11 +26,13 @@ impl Width {
             _ => Err(Refusal::Parameter),
         }
     }
+}
 
-    pub fn bytes(self) -> u8
-        ensures { result ≡ width_bytes self }
-    {
-        match self {
+impl From<Width> for u8 {
+    ghost from_gives = { λ width bytes. bytes ≡ width_bytes width };
+
+    fn from(width: Width) -> u8 {
+        match width {
             Width::One => 1,
             Width::Two => 2,
             Width::Four => 4,
