@@ -6,10 +6,10 @@ use message::refusal::Refusal;
 // How many bytes a beat can carry: the lanes of the bus.
 #[derive(Clone, Copy)]
 pub enum Width {
-    One,
-    Two,
-    Four,
-    Eight,
+    One = 1,
+    Two = 2,
+    Four = 4,
+    Eight = 8,
 }
 
 impl TryFrom<u8> for Width {
@@ -32,11 +32,6 @@ impl From<Width> for u8 {
     ghost from_gives = { λ width bytes. bytes ≡ width_bytes width };
 
     fn from(width: Width) -> u8 {
-        match width {
-            Width::One => 1,
-            Width::Two => 2,
-            Width::Four => 4,
-            Width::Eight => 8,
-        }
+        width as u8
     }
 }
