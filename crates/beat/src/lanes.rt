@@ -28,6 +28,7 @@ impl Lanes {
     }
 
     // The bytes in the active lanes, and 0 in the others.
+    #[tactic(auto, using(crate::proofs::Digits::number_lanes))]
     pub(crate) fn pack(self, bytes: &[u8]) -> u64
         requires { self.first + length bytes.now ≤ 8 }
         ensures { result ≡ in_lanes self.first bytes.now }
@@ -38,6 +39,7 @@ impl Lanes {
     }
 
     // The bytes in the active lanes, as many as `out` has room for.
+    #[tactic(auto, using(crate::proofs::Digits::digits_lanes))]
     pub(crate) fn unpack(self, lanes: u64, out: &mut [u8])
         requires { self.first + length out.old ≤ 8 }
         ensures { out.new ≡ lane_bytes self.first (length out.old) lanes }
@@ -47,6 +49,7 @@ impl Lanes {
     }
 
     // The lanes of beat `index` of a message.
+    #[tactic(auto, using(crate::proofs::Parts::no_lanes))]
     pub(crate) fn cut(self, data: &[u8], index: usize) -> u64
         requires { (length «data».now ≢ 0) → index * self.count + self.count ≤ length «data».now }
         ensures { result ≡ in_lanes self.first (beat_bytes self.count index «data».now) }
@@ -59,6 +62,7 @@ impl Lanes {
     }
 
     // Puts the bytes of beat `index` of a message in their place.
+    #[tactic(auto, using(crate::proofs::Parts::put_part))]
     pub(crate) fn join(self, lanes: u64, index: usize, buffer: &mut [u8])
         requires { index * self.count + self.count ≤ length buffer.old }
         ensures { buffer.new ≡ put self.first self.count index lanes buffer.old }
@@ -68,6 +72,7 @@ impl Lanes {
     }
 
     // The lane mask of the part of a message's mask that begins at bit `at`.
+    #[tactic(auto, using(crate::proofs::Masks::masked, crate::proofs::Masks::masked_fits))]
     pub(crate) fn mask(self, mask: u64, at: usize) -> u8
         requires { at < 64 }
         ensures { result ≡ mask / 2 ^ at % 2 ^ self.count * 2 ^ self.first }
@@ -76,6 +81,7 @@ impl Lanes {
     }
 
     // A message's mask, whose bits end at `at`, with those of a lane mask behind them.
+    #[tactic(auto, using(crate::proofs::Masks::masked, std::proofs::lemmas::Nat::or_shifted))]
     pub(crate) fn joined(self, mask: u64, lane_mask: u8, at: usize) -> u64
         requires low { mask < 2 ^ at }
         requires room { at + self.count ≤ 64 }
@@ -85,6 +91,7 @@ impl Lanes {
     }
 
     // All of the active lanes.
+    #[tactic(auto, using(crate::proofs::Masks::all_ones))]
     pub(crate) fn active(self) -> u8
         ensures { result ≡ active_lanes self.first self.count }
     {
