@@ -1,6 +1,7 @@
 -- A mask as a number, and the k bits of it from bit `at` on.
-use Rattle.std.proofs.Common.{◌≡◌, ℕ, ◌+◌, ◌-◌, ◌*◌, ◌/◌, ◌%◌, ◌^◌, ◌<◌, ◌≤◌, sym, ap, ◌∙◌, mod-eq_of_lt, add-mul, one-mul, arith, pow_mono}
+use Rattle.std.proofs.Common.{◌≡◌, ℕ, ◌+◌, ◌-◌, ◌*◌, ◌/◌, ◌%◌, ◌^◌, ◌<◌, ◌≤◌, sym, ap, ◌∙◌, mod-eq_of_lt, add-mul, one-mul, div-one, arith, pow_mono, w8, Fits}
 use lib.Bits.{bit_and}
+use lib.Pow.{ones_lt}
 use lib.Arith.{digits_lt}
 use Rattle.std.proofs.lemmas.Nat.{and_mask, shl_whole, shl_below, mod_below, pow_pos, shl-shr, pow-add}
 
@@ -9,8 +10,14 @@ pub masked : (x k o r : ℕ) → r ≡ 2 ^ k - 1 → k + o ≤ 64 → bit_and x 
 masked x k o r e le =
     ap (λ m. m * 2 ^ o % 2 ^ 64) (ap (bit_and x) e ∙ and_mask x k) ∙ shl_whole (x % 2 ^ k) k o 64 (mod_below x (2 ^ k) (pow_pos k)) le
 
-pub part_lt : (x k o m : ℕ) → o + k ≤ m → x % 2 ^ k * 2 ^ o < 2 ^ m
-part_lt x k o m le = omega (arith, shl_below (x % 2 ^ k) k o (mod_below x (2 ^ k) (pow_pos k)), pow_mono {i = k + o} {j = m} (omega arith))
+pub masked_fits : (x k o r : ℕ) → r ≡ 2 ^ k - 1 → k + o ≤ 8 → Fits w8 (bit_and x r * 2 ^ o % 2 ^ 64)
+masked_fits x k o r e le =
+    let top : x % 2 ^ k * 2 ^ o < 2 ^ 8 = omega (arith, shl_below (x % 2 ^ k) k o (mod_below x (2 ^ k) (pow_pos k)), pow_mono {i = k + o} {j = 8} le) in
+    record { fits = omega (arith, masked x k o r e (omega arith), top) }
+
+-- a mask of k ones
+pub all_ones : (k o r : ℕ) → r ≡ 2 ^ k - 1 → r / 2 ^ 0 % 2 ^ k * 2 ^ o ≡ (2 ^ k - 1) * 2 ^ o
+all_ones k o r e = ap (λ n. n % 2 ^ k * 2 ^ o) (div-one r ∙ e) ∙ ap (λ n. n * 2 ^ o) (mod-eq_of_lt (ones_lt k))
 
 -- what a lane mask gives back
 pub part_again : (x k o : ℕ) → (x % 2 ^ k * 2 ^ o) / 2 ^ o % 2 ^ k ≡ x % 2 ^ k

@@ -9,6 +9,8 @@ use crate::width::Width;
 pub(crate) struct Lanes {
     pub(crate) first: usize,
     pub(crate) count: usize,
+    ghost some: { 0 < count },
+    ghost fits: { first + count ≤ 8 },
 }
 
 impl Lanes {
@@ -17,10 +19,8 @@ impl Lanes {
         requires aligned { address % 2 ^ size ≡ 0 }
         ensures first { result.first ≡ first_lane (width_bytes width) address }
         ensures count { result.count ≡ per_beat (width_bytes width) size }
-        ensures fits { result.first + result.count ≤ 8 }
-        ensures some { 0 < result.count }
     {
-        let bytes = width.bytes() as usize;
+        let bytes = u8::from(width) as usize;
         Lanes {
             first: address as usize % bytes,
             count: bytes.min(1 << size),
@@ -28,31 +28,30 @@ impl Lanes {
     }
 
     // The bytes in the active lanes, and 0 in the others.
+    #[tactic(auto, using(crate::proofs::Digits::number_lanes))]
     pub(crate) fn pack(self, bytes: &[u8]) -> u64
         requires { self.first + length bytes.now ≤ 8 }
         ensures { result ≡ in_lanes self.first bytes.now }
     {
-        let mut lanes = 0;
-        for (i, byte) in bytes.iter().enumerate() {
-            lanes |= (*byte as u64) << (8 * (self.first + i));
-        }
-        lanes
+        let mut lanes = [0; 8];
+        lanes[self.first..self.first + bytes.len()].copy_from_slice(bytes);
+        u64::from_le_bytes(lanes)
     }
 
     // The bytes in the active lanes, as many as `out` has room for.
+    #[tactic(auto, using(crate::proofs::Digits::digits_lanes))]
     pub(crate) fn unpack(self, lanes: u64, out: &mut [u8])
         requires { self.first + length out.old ≤ 8 }
         ensures { out.new ≡ lane_bytes self.first (length out.old) lanes }
     {
-        for i in 0..out.len() {
-            out[i] = (lanes >> (8 * (self.first + i)) & 0xff) as u8;
-        }
+        let end = self.first + out.len();
+        out.copy_from_slice(&lanes.to_le_bytes()[self.first..end]);
     }
 
     // The lanes of beat `index` of a message.
+    #[tactic(auto, using(crate::proofs::Parts::no_lanes))]
     pub(crate) fn cut(self, data: &[u8], index: usize) -> u64
-        requires fits { self.first + self.count ≤ 8 }
-        requires within { (length «data».now ≢ 0) → index * self.count + self.count ≤ length «data».now }
+        requires { (length «data».now ≢ 0) → index * self.count + self.count ≤ length «data».now }
         ensures { result ≡ in_lanes self.first (beat_bytes self.count index «data».now) }
     {
         if data.is_empty() {
@@ -63,9 +62,9 @@ impl Lanes {
     }
 
     // Puts the bytes of beat `index` of a message in their place.
+    #[tactic(auto, using(crate::proofs::Parts::put_part))]
     pub(crate) fn join(self, lanes: u64, index: usize, buffer: &mut [u8])
-        requires fits { self.first + self.count ≤ 8 }
-        requires within { index * self.count + self.count ≤ length buffer.old }
+        requires { index * self.count + self.count ≤ length buffer.old }
         ensures { buffer.new ≡ put self.first self.count index lanes buffer.old }
     {
         let at = index * self.count;
@@ -73,30 +72,27 @@ impl Lanes {
     }
 
     // The lane mask of the part of a message's mask that begins at bit `at`.
+    #[tactic(auto, using(crate::proofs::Masks::masked, crate::proofs::Masks::masked_fits))]
     pub(crate) fn mask(self, mask: u64, at: usize) -> u8
-        requires at { at < 64 }
-        requires fits { self.first + self.count ≤ 8 }
-        requires some { 0 < self.count }
+        requires { at < 64 }
         ensures { result ≡ mask / 2 ^ at % 2 ^ self.count * 2 ^ self.first }
     {
         ((mask >> at & ones(self.count)) << self.first) as u8
     }
 
     // A message's mask, whose bits end at `at`, with those of a lane mask behind them.
+    #[tactic(auto, using(crate::proofs::Masks::masked, std::proofs::lemmas::Nat::or_shifted))]
     pub(crate) fn joined(self, mask: u64, lane_mask: u8, at: usize) -> u64
         requires low { mask < 2 ^ at }
         requires room { at + self.count ≤ 64 }
-        requires fits { self.first + self.count ≤ 8 }
-        requires some { 0 < self.count }
         ensures { result ≡ lane_mask / 2 ^ self.first % 2 ^ self.count * 2 ^ at + mask }
     {
         ((lane_mask >> self.first) as u64 & ones(self.count)) << at | mask
     }
 
     // All of the active lanes.
+    #[tactic(auto, using(crate::proofs::Masks::all_ones))]
     pub(crate) fn active(self) -> u8
-        requires fits { self.first + self.count ≤ 8 }
-        requires some { 0 < self.count }
         ensures { result ≡ active_lanes self.first self.count }
     {
         self.mask(ones(self.count), 0)
@@ -104,8 +100,6 @@ impl Lanes {
 
     // Whether a lane mask has no bit but those of active lanes.
     pub(crate) fn cover(self, lane_mask: u8) -> bool
-        requires fits { self.first + self.count ≤ 8 }
-        requires some { 0 < self.count }
         ensures { result ≡ nat_eq (lane_mask / 2 ^ self.first % 2 ^ self.count * 2 ^ self.first) lane_mask }
     {
         self.mask((lane_mask >> self.first) as u64, 0) == lane_mask
@@ -118,7 +112,7 @@ pub(crate) fn beat_count(has_data: bool, width: Width, size: u8) -> usize
     ensures { result ≡ beat_count has_data (width_bytes width) size }
 {
     if has_data {
-        ((1 << size) / width.bytes() as usize).max(1)
+        ((1 << size) / u8::from(width) as usize).max(1)
     } else {
         1
     }

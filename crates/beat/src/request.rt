@@ -39,7 +39,7 @@ impl RequestBeat {
         ensures value { result ≡ cut_request width (request head «data».now) index }
         ensures lanes { LaidOut width (request head «data».now) index result }
     {
-        let width = Width::new(width)?;
+        let width = Width::try_from(width)?;
         let operation = head.check(data)?;
         if index >= beat_count(operation.has_data(), width, head.size) {
             return Ok(None);
@@ -52,7 +52,7 @@ impl RequestBeat {
         ensures answer { Began width self buffer.old result buffer.new }
         ensures lanes { IfOk result (λ g. carries_data self.opcode self.param ≡ true → LanesRead width (head_of self 0) 0 self buffer.old g buffer.new) }
     {
-        let width = Width::new(width)?;
+        let width = Width::try_from(width)?;
         let operation = judge(None, width, self, buffer.len())?;
         if !operation.has_data() {
             return Ok(Begun::Whole(self.head(whole_mask(self.size))));

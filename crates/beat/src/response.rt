@@ -56,7 +56,7 @@ impl ResponseBeat {
         ensures value { result ≡ cut_response width (response head «data».now) index }
         ensures lanes { LaidOut width (response head «data».now) index result }
     {
-        let width = Width::new(width)?;
+        let width = Width::try_from(width)?;
         let opcode = head.check(data)?;
         if index >= beat_count(opcode.has_data(), width, head.size) {
             return Ok(None);
@@ -74,7 +74,7 @@ impl ResponseBeat {
         ensures answer { Began width self beside buffer.old result buffer.new }
         ensures lanes { IfOk result (λ g. response_carries_data self.opcode self.param ≡ true → LanesRead width (head_of self beside) 0 self buffer.old buffer.new) }
     {
-        let width = Width::new(width)?;
+        let width = Width::try_from(width)?;
         let opcode = judge(None, self, beside, buffer.len())?;
         let head = self.head(beside);
         if !opcode.has_data() {

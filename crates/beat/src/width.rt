@@ -6,16 +6,18 @@ use message::refusal::Refusal;
 // How many bytes a beat can carry: the lanes of the bus.
 #[derive(Clone, Copy)]
 pub enum Width {
-    One,
-    Two,
-    Four,
-    Eight,
+    One = 1,
+    Two = 2,
+    Four = 4,
+    Eight = 8,
 }
 
-impl Width {
-    pub fn new(bytes: u8) -> Result<Width, Refusal>
-        ensures { result ≡ width_of bytes }
-    {
+impl TryFrom<u8> for Width {
+    type Error = Refusal;
+
+    ghost try_from_gives = { λ bytes r. r ≡ width_of bytes };
+
+    fn try_from(bytes: u8) -> Result<Width, Refusal> {
         match bytes {
             1 => Ok(Width::One),
             2 => Ok(Width::Two),
@@ -24,15 +26,12 @@ impl Width {
             _ => Err(Refusal::Parameter),
         }
     }
+}
 
-    pub fn bytes(self) -> u8
-        ensures { result ≡ width_bytes self }
-    {
-        match self {
-            Width::One => 1,
-            Width::Two => 2,
-            Width::Four => 4,
-            Width::Eight => 8,
-        }
+impl From<Width> for u8 {
+    ghost from_gives = { λ width bytes. bytes ≡ width_bytes width };
+
+    fn from(width: Width) -> u8 {
+        width as u8
     }
 }

@@ -28,7 +28,7 @@ fn read<C: Channel>(
 ) -> Result<Option<Joined<C::Head>>, Unread>
     ensures { Joins C.Channel.rules width beats.now buffer.old result buffer.new }
 {
-    if let Err(refusal) = Width::new(width) {
+    if let Err(refusal) = Width::try_from(width) {
         return Err(Unread { beat: 0, refusal });
     }
     let [first, ..] = beats else {

@@ -7,13 +7,10 @@ mask-requires c =
     let e = c.of-lanes.ensures in
     let s = shape c.args.width c.args.head.size c.args.head.address c.requires.size c.requires.aligned in
     let ends = beat_ends s c.args.index c.of-lanes.result.count c.requires.within e.count in
-    record { at = omega (arith, ends, s.bytes, e.some); fits = e.fits; some = e.some }
+    omega (arith, ends, s.bytes, c.of-lanes.result.some)
 
 pub cut-requires : goal.cut-requires
 cut-requires c =
     let e = c.of-lanes.ensures in
     let s = shape c.args.width c.args.head.size c.args.head.address c.requires.size c.requires.aligned in
-    record {
-      fits = e.fits;
-      within = λ some. omega (arith, beat_ends s c.args.index c.of-lanes.result.count c.requires.within e.count, c.requires.whole some);
-    }
+    λ some. omega (arith, beat_ends s c.args.index c.of-lanes.result.count c.requires.within e.count, c.requires.whole some)

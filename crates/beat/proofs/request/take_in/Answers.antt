@@ -9,7 +9,7 @@ pub join-requires : goal.join-requires
 join-requires c =
     let e = c.of-lanes.ensures in
     let s = shape c.args.width c.args.head.size c.args.head.address c.requires.due.size c.requires.due.aligned in
-    record { fits = e.fits; within = omega (arith, beat_ends s c.args.come c.of-lanes.result.count c.requires.due.due e.count, c.requires.room) }
+    omega (arith, beat_ends s c.args.come c.of-lanes.result.count c.requires.due.due e.count, c.requires.room)
 
 pub joined-mask-requires : goal.joined-mask-requires
 joined-mask-requires c =
@@ -18,8 +18,6 @@ joined-mask-requires c =
     record {
       low = subst (λ k. c.args.head.mask < 2 ^ (c.args.come * k)) (sym e.count) c.requires.due.low;
       room = omega (arith, beat_ends s c.args.come c.of-lanes.result.count c.requires.due.due e.count, s.bytes);
-      fits = e.fits;
-      some = e.some;
     }
 
 pub invariant_of-result : goal.invariant_of-result

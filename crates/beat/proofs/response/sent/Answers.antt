@@ -17,10 +17,7 @@ pub cut-requires : goal.cut-requires
 cut-requires c =
     let e = c.of.ensures in
     let s = shape c.args.width c.args.head.size c.args.head.address c.requires.size c.requires.aligned in
-    record {
-      fits = e.fits;
-      within = λ some. omega (arith, beat_ends s c.args.index c.of.result.count c.requires.within e.count, c.requires.whole some);
-    }
+    λ some. omega (arith, beat_ends s c.args.index c.of.result.count c.requires.within e.count, c.requires.whole some)
 
 pub returns : goal.returns
 returns c =

@@ -8,7 +8,7 @@ pub join-requires : goal.join-requires
 join-requires c =
     let e = c.of-lanes.ensures in
     let s = shape c.args.width c.args.head.size c.args.head.address c.requires.due.size c.requires.due.aligned in
-    record { fits = e.fits; within = omega (arith, beat_ends s c.args.come c.of-lanes.result.count c.requires.due.due e.count, c.requires.room) }
+    omega (arith, beat_ends s c.args.come c.of-lanes.result.count c.requires.due.due e.count, c.requires.room)
 
 pub invariant_of-result : goal.invariant_of-result
 invariant_of-result c =
