@@ -1,10 +1,10 @@
 -- Masks and bytes lie in the lanes of their addresses.
-use Rattle.std.proofs.Common.{◌≡◌, ℕ, zero, suc, ◌+◌, ◌-◌, ◌*◌, ◌/◌, ◌%◌, ◌^◌, ◌<◌, ◌≤◌, true, List, [], ◌∷◌, ◌++◌, length, get_or, take, drop, sym, refl, ap, ◌∙◌, mul_assoc, add-mul, one-mul, div-one, arith}
+use Rattle.std.proofs.Common.{◌≡◌, ℕ, zero, suc, ◌+◌, ◌-◌, ◌*◌, ◌/◌, ◌%◌, ◌^◌, ◌<◌, ◌≤◌, true, List, [], ◌∷◌, ◌++◌, length, get_or, take, drop, replicate, sym, refl, ap, ◌∙◌, mul_assoc, add-mul, one-mul, zero-mul, div-one, arith}
 use native.Mathlib.Nat.{mul-mod_left, pow-zero, zero-div}
 use lib.Lanes.{number_l, Each1}
 use Rattle.std.proofs.lemmas.Nat.{pow-add, pow_pos, shl-shr, shr-shr, mod_below, mod_low, shr_high}
 use Rattle.std.proofs.lemmas.List.{get_or_append_left, get_or-append_right, get_or-take, get_or-drop, get_or_past, length-take, length-take-le}
-use Rattle.std.proofs.lemmas.Simd.{Each1-chunk}
+use Rattle.std.proofs.lemmas.Simd.{Each1-chunk, Each1-replicate}
 use Rattle.message.specs.Bits.{bit}
 use Rattle.message.proofs.Digits.{no_digit_above}
 use Rattle.message.proofs.Sets.{low_digit}
@@ -39,6 +39,15 @@ lane_up n f t =
 
 short : (k : ℕ) (xs : List ℕ) → length (take k xs) ≤ k
 short k xs = omega (arith, length-take k xs)
+
+-- zeros in the lanes
+number_zeros : (xs : List ℕ) → Each1 (λ x. x ≡ 0) xs → number_l 256 xs ≡ 0
+number_zeros [] h = refl
+number_zeros (x ∷ xs) h = omega (arith, h.0, number_zeros xs h.1)
+
+pub zero_lanes : (f k j n : ℕ) → in_lanes f (beat_bytes k j (replicate n 0)) ≡ 0
+zero_lanes f k j n =
+    ap (λ m. m * 2 ^ (8 * f)) (number_zeros (beat_bytes k j (replicate n 0)) (Each1-chunk (λ x. x ≡ 0) (j * k) k (replicate n 0) (Each1-replicate (λ x. x ≡ 0) n 0 refl))) ∙ zero-mul (2 ^ (8 * f))
 
 module _ (w size address : ℕ) (s : Shape w size address) (j : ℕ) (lt : j < beat_count true w size) where
   -- the writer's bytes

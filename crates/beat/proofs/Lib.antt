@@ -4,6 +4,6 @@ pub mod Widths
 pub mod Parts
 pub mod Places
 pub mod Lays
-pub mod Requests
 pub mod Verdicts
-pub mod Responses
+pub mod Requests
+pub mod Reading

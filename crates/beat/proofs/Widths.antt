@@ -120,3 +120,17 @@ beat_ends {w} {size} s j k lt e =
 pub count_most : {w size address : ℕ} → Shape w size address → (b : Bool) (j : ℕ) → j < beat_count b w size → j < beat_count true w size
 count_most s true j lt = lt
 count_most s false j lt = omega (arith, lt, s.beats)
+
+-- where beat j of an accepted message lies
+pub record Within (w size address : ℕ) (j k : ℕ) : Type 0 where
+  pub lies : Shape w size address
+  pub due : j < beat_count true w size
+  pub low : j * k < 64
+  pub ends : j * k + k ≤ 2 ^ size
+
+pub within : (w : Width) (size address : ℕ) → size ≤ 6 → address % 2 ^ size ≡ 0 → (d : Bool) (j k n : ℕ) → j < n → n ≡ beat_count d (width_bytes w) size → k ≡ per_beat (width_bytes w) size → Within (width_bytes w) size address j k
+within w size address small aligned d j k n lt count per =
+    let s = shape w size address small aligned in
+    let due = count_most s d j (omega (arith, lt, count)) in
+    let ends = beat_ends s j k due per in
+    record { lies = s; due = due; low = omega (arith, ends, s.bytes, s.some, per); ends = ends }

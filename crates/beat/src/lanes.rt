@@ -6,7 +6,7 @@ use crate::width::Width;
 
 // The active lanes of a message's beats: `count` of them, from `first` on.
 #[derive(Clone, Copy)]
-pub(crate) struct Lanes {
+pub struct Lanes {
     pub(crate) first: usize,
     pub(crate) count: usize,
     ghost some: { 0 < count },

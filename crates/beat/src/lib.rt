@@ -2,7 +2,12 @@
 #![tactic(auto)]
 
 pub mod begun;
-mod lanes;
+pub mod burst;
+pub mod channel;
+pub mod cut;
+pub mod header;
+mod judge;
+pub mod lanes;
 pub mod request;
 pub mod response;
 #[cfg(test)]

@@ -87,10 +87,11 @@ right_accepted q o place below full count =
     let counts = measured_from operation_kinds o s (length q.bytes) count in
     rw (place, masks, counts)
 
+pub legal_long : (q : Request) (o : Operation) → Legal o q → length q.bytes ≡ data_length o q.head.size
+legal_long q o l = count_from (has_data o) (length q.bytes) (2 ^ q.head.size) l.whole_data l.no_data
+
 legal_accepted : (q : Request) (o : Operation) → Legal o q → checked q ≡ Ok o
-legal_accepted q o l =
-    right_accepted q o (legal_placed q o l) (legal_below q o l) (legal_full q o l)
-    (count_from (has_data o) (length q.bytes) (2 ^ q.head.size) l.whole_data l.no_data)
+legal_accepted q o l = right_accepted q o (legal_placed q o l) (legal_below q o l) (legal_full q o l) (legal_long q o l)
 
 pub legality : (q : Request) (r : Result Operation Refusal) → r ≡ checked q → TellsLegal q r
 legality q r e o = ((λ h. accepted_legal q o (sym e ∙ h)), (λ l. e ∙ legal_accepted q o l))

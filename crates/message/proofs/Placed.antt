@@ -1,12 +1,12 @@
 -- What judgements that refuse nothing say, of messages of any kind.
-use Rattle.std.proofs.Common.{◌≡◌, ℕ, ◌*◌, ◌/◌, ◌%◌, ◌^◌, Bool, true, false, cond, not, eqb, Ok, Err, Result, sym, refl, ap, ◌∙◌, arith}
+use Rattle.std.proofs.Common.{◌≡◌, ℕ, ◌*◌, ◌/◌, ◌%◌, ◌^◌, ◌≤◌, Bool, true, false, cond, not, eqb, Ok, Err, Result, sym, refl, ap, ◌∙◌, arith}
 use native.Mathlib.Nat.{mul-mod_left}
 use Rattle.std.proofs.lemmas.Nat.{div-add-mod'}
 use Rattle.std.proofs.lemmas.Bool.{eqb-true, eq-eqb}
 use Rattle.message.specs.declared.refusal.Refusal.{Refusal}
 use Rattle.message.specs.declared.refusal.Refusal.TheVariants as no
 use Rattle.message.specs.Refusal.{unless_refused}
-use Rattle.message.specs.Kind.{Kinds, aligned, length_of, fitted, placed, measured}
+use Rattle.message.specs.Kind.{Kinds, Small, aligned, length_of, fitted, placed, measured}
 
 -- what is accepted passed the judgement before
 pub accepted_before : {A B : Type 0} (r : Result A Refusal) (next : A → Result B Refusal) (b : B) → unless_refused r next ≡ Ok b → (a : A) × (r ≡ Ok a) × (next a ≡ Ok b)
@@ -43,6 +43,10 @@ module _ {K : Type 0} (ks : Kinds K) where
         fits = ap (λ p. ks.fits p size) (sym same) ∙ b.0;
         aligned = eqb-true (address % 2 ^ size) 0 c.0;
       }
+
+  pub placed_right : Small ks → (opcode param size address : ℕ) (k : K) → placed ks opcode param size address ≡ Ok k → (size ≤ 6) × (address % 2 ^ size ≡ 0)
+  placed_right small opcode param size address k e =
+      let p = placed_parts opcode param size address k e in (small k size p.fits, p.aligned)
 
   pub placed_from : (opcode param size address : ℕ) (k : K) → Placed opcode param size address k → placed ks opcode param size address ≡ Ok k
   unfolding placed

@@ -1,5 +1,5 @@
 -- What a message is for, on either channel, and what that asks of its size, its address and its data.
-use Rattle.std.specs.Prelude.{ℕ, ◌%◌, ◌^◌, Bool, cond, not, Ok, Err, Result, ◌==◌}
+use Rattle.std.specs.Prelude.{◌≡◌, ℕ, ◌%◌, ◌^◌, ◌≤◌, Bool, true, cond, not, Ok, Err, Result, ◌==◌}
 use Rattle.message.specs.declared.refusal.Refusal.{Refusal}
 use Rattle.message.specs.declared.refusal.Refusal.TheVariants as no
 use Rattle.message.specs.Refusal.{unless_refused}
@@ -9,6 +9,10 @@ pub record Kinds (K : Type 0) : Type 0 where
   pub of : ℕ → ℕ → Result K Refusal
   pub fits : K → ℕ → Bool
   pub carries : K → Bool
+
+-- no message covers more than 64 bytes
+abbrev pub Small : {K : Type 0} → Kinds K → Type 0
+Small {K} ks = (k : K) (size : ℕ) → ks.fits k size ≡ true → size ≤ 6
 
 -- the address is a multiple of the bytes that the message covers
 abbrev pub aligned : ℕ → ℕ → Bool

@@ -1,5 +1,5 @@
-ghost use Rattle.std.specs.Prelude.{◌≡◌, ℕ, ◌≤◌, true};
-ghost use Rattle.message.specs.Kind.{Kinds, fitted, placed, length_of, measured};
+ghost use Rattle.std.specs.Prelude.{◌≡◌, ◌≤◌};
+ghost use Rattle.message.specs.Kind.{Kinds, Small, fitted, placed, length_of, measured};
 
 use crate::refusal::Refusal;
 
@@ -20,7 +20,7 @@ pub trait Kind: Copy {
         ensures { result ≡ kinds.carries self };
 
     // No message covers more than 64 bytes.
-    ghost small: { (k : Self) (size : ℕ) → kinds.fits k size ≡ true → size ≤ 6 };
+    ghost small: { Small kinds };
 }
 
 // The kind of a message at an address, or the first of the refusals that need no mask and no data.

@@ -1,0 +1,10 @@
+// What is alike in every beat of a message, on either channel; no request is denied.
+#[derive(Clone, Copy, PartialEq)]
+pub struct Header {
+    pub opcode: u8,
+    pub param: u8,
+    pub size: u8,
+    pub source: u8,
+    pub address: u32,
+    pub denied: bool,
+}

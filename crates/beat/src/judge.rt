@@ -1,0 +1,56 @@
+ghost use Rattle.std.specs.Prelude.{◌≡◌, ◌≤◌, ◌%◌, ◌^◌};
+ghost use Rattle.beat.specs.Channel.{same_head, admitted, judged};
+
+use crate::channel::Channel;
+use crate::header::Header;
+use crate::lanes::Lanes;
+use crate::width::Width;
+use message::kind::{Kind, place};
+use message::refusal::Refusal;
+
+// The kind of a beat's message, or the first refusal that applies. A later beat is compared with the head of the first.
+#[tactic(auto, unfolding(crate::specs::Channel::judged))]
+pub(crate) fn judge<C: Channel>(
+    first: Option<C::Head>,
+    width: Width,
+    beat: C::Beat,
+    room: usize,
+) -> Result<C::Kind, Refusal>
+    ensures { result ≡ judged C.Kind.kinds C.beats first width beat room }
+{
+    let header = C::header(C::start(beat));
+    let kind = place(header.opcode, header.param, header.size, header.address)?;
+    admit::<C>(kind, first, width, beat, room)
+}
+
+fn admit<C: Channel>(
+    kind: C::Kind,
+    first: Option<C::Head>,
+    width: Width,
+    beat: C::Beat,
+    room: usize,
+) -> Result<C::Kind, Refusal>
+    requires size { (C.beats.header (C.beats.start beat)).size ≤ 6 }
+    requires aligned { (C.beats.header (C.beats.start beat)).address % 2 ^ (C.beats.header (C.beats.start beat)).size ≡ 0 }
+    ensures { result ≡ admitted C.Kind.kinds C.beats kind first width beat room }
+{
+    let header = C::header(C::start(beat));
+    if !follows::<C>(first, header) {
+        return Err(Refusal::HeadDiffers);
+    }
+    C::own(kind, Lanes::of(width, header.size, header.address), beat)?;
+    if kind.has_data() && room < 1 << header.size {
+        return Err(Refusal::BufferShort);
+    }
+    Ok(kind)
+}
+
+// Whether a beat has the header of the beats before it, if there are any.
+fn follows<C: Channel>(first: Option<C::Head>, header: Header) -> bool
+    ensures { result ≡ same_head C.Kind.kinds C.beats first header }
+{
+    match first {
+        None => true,
+        Some(head) => C::header(head) == header,
+    }
+}
