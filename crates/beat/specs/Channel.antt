@@ -187,10 +187,13 @@ module _ {K H B : Type 0} (ks : Kinds K) (ch : Beats K H B) where
       UnlessRefused (λ e. (e, u)) (judged (Some (at u).head) (at u).width b (length xs)) r xs ys (λ k.
       CarriedOut r (λ g. Taken at (at u).width (at u).head (at u).come b xs g ys))
 
--- what a channel owes: a mask changes no header, and a beat carries the lanes and the mask bits that it is made of
+-- what a channel owes: a mask changes no header and takes the last one's place, and a beat carries the lanes and the
+-- mask bits that it is made of
 pub record Laws {K H B : Type 0} (ch : Beats K H B) : Type 0 where
+  pub again : (h : H) (m n : ℕ) → ch.with_mask (ch.with_mask h m) n ≡ ch.with_mask h n
   pub header_kept : (h : H) (m : ℕ) → ch.header (ch.with_mask h m) ≡ ch.header h
   pub unmasked : (b : B) → ch.mask (ch.start b) ≡ 0
+  pub unset : (b : B) → ch.with_mask (ch.start b) 0 ≡ ch.start b
   pub masked : (h : H) (b : B) (first count n : ℕ) → ch.mask (ch.with_mask h (more_mask first count n (ch.lane_mask b) (ch.mask h))) ≡ more_mask first count n (ch.lane_mask b) (ch.mask h)
   pub cut_mask : (k : K) (h : H) (first count j x : ℕ) → ch.lane_mask (ch.beat k h (beat_bits count j (ch.mask h) * 2 ^ first) x) ≡ beat_bits count j (ch.mask h) * 2 ^ first
   pub cut_lanes : (k : K) (h : H) (m x : ℕ) → ch.lanes (ch.beat k h m x) ≡ x

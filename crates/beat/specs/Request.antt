@@ -53,8 +53,10 @@ request_beats =
 pub request_laws : Laws request_beats
 request_laws =
     record {
+      again = λ h m n. refl;
       header_kept = λ h m. refl;
       unmasked = λ b. refl;
+      unset = λ b. refl;
       masked = λ h b first count n. refl;
       cut_mask = λ o h first count j x. refl;
       cut_lanes = λ o h m x. refl;

@@ -72,8 +72,10 @@ no_bits a b c = sym (ap (λ n. n % 2 ^ b * 2 ^ c) (zero-div (2 ^ a)) ∙ ap (λ 
 pub response_laws : Laws response_beats
 response_laws =
     record {
+      again = λ h m n. refl;
       header_kept = λ h m. refl;
       unmasked = λ b. refl;
+      unset = λ b. refl;
       masked = λ h b first count n. omega (arith, no_bits first count n);
       cut_mask = λ k h first count j x. no_bits (j * count) count first;
       cut_lanes = λ k h m x. refl;

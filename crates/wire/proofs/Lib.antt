@@ -1,2 +1,4 @@
+pub mod Progress
 pub mod Lists
 pub mod Laws
+pub mod Joining

@@ -1,11 +1,7 @@
 pub mod Beats
 pub mod Rules
 pub mod Joins
-pub mod Request
-pub mod Response
-pub mod RequestLaws
 pub mod Payloads
 pub mod Bits
-pub mod Requests
-pub mod ResponseLaws
-pub mod Responses
+pub mod Request
+pub mod Response

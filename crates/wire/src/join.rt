@@ -1,22 +1,26 @@
-ghost use Rattle.std.specs.Prelude.{◌≡◌, ℕ, List, [], ◌∷◌};
+ghost use Rattle.std.specs.Prelude.{◌≡◌, ℕ, ◌+◌, ◌^◌, ◌<◌, List, [], ◌∷◌, length};
 ghost use Rattle.beat.specs.declared.width.Width.{Width};
+ghost use Rattle.beat.specs.Channel.{part};
+ghost use Rattle.wire.specs.Rules.{HalfRead};
 ghost use Rattle.wire.specs.Joins.{Ends, Joins, OnlyLegal, EveryLegal, Again};
 
-use crate::channel::Channel;
 use crate::joined::{Joined, Unread};
+use crate::messages::Messages;
 use beat::begun::Begun;
+use beat::burst::{Burst, begin};
+use beat::channel::Channel;
 use beat::width::Width;
 
 // Joins the beats at the front of a list to a message, its data at the front of `buffer`; none if beats are missing.
-pub fn join<C: Channel>(
+pub fn join<C: Messages>(
     beats: &[C::Beat],
     width: u8,
     buffer: &mut [u8],
 ) -> Result<Option<Joined<C::Head>>, Unread>
-    ensures answer { Joins C.Channel.rules width beats.now buffer.old result buffer.new }
-    ensures only_legal { OnlyLegal C.Channel.rules width beats.now buffer.old result buffer.new }
-    ensures every_legal { EveryLegal C.Channel.rules width beats.now buffer.old result buffer.new }
-    ensures again { Again C.Channel.rules width beats.now buffer.old result buffer.new }
+    ensures answer { Joins C.Kind.kinds C.beats width beats.now buffer.old result buffer.new }
+    ensures only_legal { OnlyLegal C.Kind.kinds C.beats C.messages width beats.now buffer.old result buffer.new }
+    ensures every_legal { EveryLegal C.Kind.kinds C.beats C.messages width beats.now buffer.old result buffer.new }
+    ensures again { Again C.Kind.kinds C.beats C.messages width beats.now buffer.old result buffer.new }
 {
     read::<C>(beats, width, buffer)
 }
@@ -26,45 +30,44 @@ fn read<C: Channel>(
     width: u8,
     buffer: &mut [u8],
 ) -> Result<Option<Joined<C::Head>>, Unread>
-    ensures { Joins C.Channel.rules width beats.now buffer.old result buffer.new }
+    ensures { Joins C.Kind.kinds C.beats width beats.now buffer.old result buffer.new }
 {
     if let Err(refusal) = Width::try_from(width) {
         return Err(Unread { beat: 0, refusal });
     }
-    let [first, ..] = beats else {
+    let [first, rest @ ..] = beats else {
         return Ok(None);
     };
-    match C::begin(*first, width, buffer) {
-        Ok(begun) => match begun {
-            Begun::Whole(head) => Ok(Some(Joined { head, beats: 1 })),
-            Begun::Half(burst) => finish::<C>(burst, beats, buffer),
-        },
+    match begin::<C>(*first, width, buffer) {
+        Ok(Begun::Whole(head)) => Ok(Some(Joined { head, beats: 1 })),
+        Ok(Begun::Half(burst)) => finish::<C>(burst, rest, buffer),
         Err(refusal) => Err(Unread { beat: 0, refusal }),
     }
 }
 
 // Reads the beats after the first, as far as they are due and there are any.
 fn finish<C: Channel>(
-    burst: C::Burst,
-    beats: &[C::Beat],
+    burst: Burst<C>,
+    rest: &[C::Beat],
     buffer: &mut [u8],
 ) -> Result<Option<Joined<C::Head>>, Unread>
-    ensures { (w : Width) (k : C.Channel.Kind) (b : C.Beat) (bs : List C.Beat) (xs : List ℕ) → beats.now ≡ b ∷ bs → C.Channel.waits w k b (b ∷ []) xs burst buffer.old → Ends C.Channel.rules w k b beats.now xs result buffer.new }
+    requires { length rest.now + 1 < 2 ^ 64 }
+    ensures { (w : Width) (k : C.Kind) (b : C.Beat) (xs : List ℕ) → HalfRead C.Kind.kinds C.beats (λ u. part u.head u.width u.come) w k b (b ∷ []) xs burst buffer.old → Ends C.Kind.kinds C.beats w k b (b ∷ rest.now) xs result buffer.new }
 {
     let mut burst = burst;
-    for i in 1..beats.len() {
-        match C::next(burst, beats[i], buffer) {
-            Ok(begun) => match begun {
-                Begun::Whole(head) => return Ok(Some(Joined { head, beats: i + 1 })),
-                Begun::Half(more) => burst = more,
-            },
-            Err(back) => {
-                let (refusal, rest) = back;
-                let _ = C::give_up(rest);
-                return Err(Unread { beat: i, refusal });
+    for (i, beat) in rest.iter().enumerate() {
+        match burst.next(*beat, buffer) {
+            Ok(Begun::Whole(head)) => return Ok(Some(Joined { head, beats: i + 2 })),
+            Ok(Begun::Half(more)) => burst = more,
+            Err((refusal, back)) => {
+                let _ = back.give_up();
+                return Err(Unread {
+                    beat: i + 1,
+                    refusal,
+                });
             }
         }
     }
-    let _ = C::give_up(burst);
+    let _ = burst.give_up();
     Ok(None)
 }

@@ -1,10 +1,8 @@
 // Whole messages over the bus: the beats of a message joined to it.
 #![tactic(auto)]
 
-pub mod channel;
 pub mod join;
 pub mod joined;
-pub mod request;
-pub mod response;
+pub mod messages;
 #[cfg(test)]
 mod tests;

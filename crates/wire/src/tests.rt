@@ -1,8 +1,7 @@
 use crate::join::join;
-use crate::request::ChannelA;
-use crate::response::ChannelD;
-use beat::request::RequestBeat;
-use beat::response::{ResponseBeat, Sideband};
+use beat::cut::cut;
+use beat::request::{ChannelA, RequestBeat};
+use beat::response::{ChannelD, ResponseBeat, Sideband};
 use message::request::RequestHead;
 use message::response::Denial;
 use std::test::Fail;
@@ -19,8 +18,8 @@ const PUT: RequestHead = RequestHead {
 #[test]
 fn a_cut_request_is_joined_again(rt: HostRuntime) -> Result<(), Fail> {
     let data = [1, 2, 3, 4, 5, 6, 7, 8];
-    let first = RequestBeat::cut(PUT, &data, 4, 0)?.ok_or("no first beat")?;
-    let second = RequestBeat::cut(PUT, &data, 4, 1)?.ok_or("no second beat")?;
+    let first = cut::<ChannelA>(PUT, &data, 4, 0)?.ok_or("no first beat")?;
+    let second = cut::<ChannelA>(PUT, &data, 4, 1)?.ok_or("no second beat")?;
     assert!(rt; first.lanes == 0x0403_0201 && second.lanes == 0x0807_0605);
     let mut buffer = [0xee; 9];
     let Ok(Some(joined)) = join::<ChannelA>(&[first, second], 4, &mut buffer) else {
@@ -34,7 +33,7 @@ fn a_cut_request_is_joined_again(rt: HostRuntime) -> Result<(), Fail> {
 #[test]
 fn a_list_tells_where_it_stops(rt: HostRuntime) -> Result<(), Fail> {
     let data = [1, 2, 3, 4, 5, 6, 7, 8];
-    let first = RequestBeat::cut(PUT, &data, 4, 0)?.ok_or("no first beat")?;
+    let first = cut::<ChannelA>(PUT, &data, 4, 0)?.ok_or("no first beat")?;
     let other = RequestBeat { source: 6, ..first };
     let mut buffer = [0xee; 8];
     assert!(rt; matches!(join::<ChannelA>(&[first], 4, &mut buffer), Ok(None)));

@@ -1,22 +1,34 @@
-use Rattle.std.proofs.Common.{◌≡◌, ◌-◌, ◌<◌, [], ◌∷◌, length, take, drop, sym, ap, ◌∙◌, subst, rules}
+use Rattle.std.proofs.Common.{◌≡◌, ◌-◌, ◌<◌, ◌∷◌, length, take, drop, Some, Ok, sym, ap, ◌∙◌, subst, rules}
 use Rattle.std.proofs.lemmas.Slice.{first_rest}
-use Rattle.beat.proofs.Verdicts.{carried_on}
-use Rattle.wire.specs.Joins.{Reached}
-use Rattle.wire.proofs.Lists.{joins_begun}
+use Rattle.beat.specs.declared.burst.Burst.{Burst}
+use Rattle.beat.specs.Channel.{part}
+use Rattle.wire.specs.Joins.{Joins}
+use Rattle.wire.proofs.Lists.{joins_whole, joins_half}
 use Rattle.wire.proofs.join.read.Goals as goal
 
-pub returns-in-Half : goal.returns-in-Half
-returns-in-Half g c =
-    let ch = g.C.Channel.rules in
+pub returns-in-Ok-Whole : goal.returns-in-Ok-Whole
+returns-in-Ok-Whole g c =
+    let ks = g.C.Kind.Kind.kinds in
+    let ch = g.C.Channel.beats in
     let l = c.args.beats.now in
     let b = c.first-item.result in
     let rest = take (length l - 1) (drop 1 l) in
-    let xs = c.args.buffer.now in
-    let ys = c.begin.new.buffer in
+    let some : 0 < length l = search rules in
+    let is : l ≡ b ∷ rest = first_rest l b some ∙ ap (λ x. x ∷ rest) (sym c.first-item.is) in
+    subst (λ cs. Joins ks ch c.args.width cs c.args.buffer.now (Ok (Some (record { head = c.in-Ok-Whole.head; beats = 1 }))) c.begin.new.buffer) (sym is)
+    (joins_whole ks ch g.met.C.Channel.laws {U = Burst g.row.C.Denot g.row.C-Kind.Denot g.row.C-Head.Denot g.row.C-Beat.Denot g.C.Channel g.C.Kind.Kind} (λ u. part u.head u.width u.come) c.args.width c.in_default.field-0 b rest c.args.buffer.now c.in-Ok-Whole.head c.begin.new.buffer (search rules) (sym c.in_default.ensures) (search rules))
+
+pub returns-in-Ok-Half : goal.returns-in-Ok-Half
+returns-in-Ok-Half g c =
+    let ks = g.C.Kind.Kind.kinds in
+    let ch = g.C.Channel.beats in
+    let l = c.args.beats.now in
+    let b = c.first-item.result in
+    let rest = take (length l - 1) (drop 1 l) in
     let some : 0 < length l = search rules in
     let w = c.in_default.field-0 in
-    let wide = sym c.in_default.ensures in
+    let xs = c.args.buffer.now in
     let is : l ≡ b ∷ rest = first_rest l b some ∙ ap (λ x. x ∷ rest) (sym c.first-item.is) in
-    let parts = carried_on (λ e. e) (ch.first w b (length xs)) c.in-Ok.begun xs ys (λ k. Reached ch g.C.Channel.waits w k b (b ∷ []) xs c.in-Ok.begun ys) (c.in-Ok.ensures w wide) in
-    let half = subst (λ x. Reached ch g.C.Channel.waits w parts.0 b (b ∷ []) xs x ys) c.in-Half.is parts.2 in
-    joins_begun ch c.args.width w parts.0 b rest l xs c.finish.result c.finish.new.buffer is wide parts.1 (c.finish.ensures w parts.0 b rest xs is half)
+    subst (λ cs. Joins ks ch c.args.width cs xs c.finish.result c.finish.new.buffer) (sym is)
+    (joins_half ks ch g.met.C.Channel.laws (λ u. part u.head u.width u.come) c.args.width w b rest xs c.in-Ok-Half.burst c.begin.new.buffer c.finish.result c.finish.new.buffer (search rules) (sym c.in_default.ensures) (search rules)
+    (λ k half. c.finish.ensures w k b xs half))
