@@ -1,5 +1,5 @@
 -- Masks and bytes lie in the lanes of their addresses.
-use Rattle.std.proofs.Common.{◌≡◌, ℕ, zero, suc, ◌+◌, ◌-◌, ◌*◌, ◌/◌, ◌%◌, ◌^◌, ◌<◌, ◌≤◌, true, List, [], ◌∷◌, ◌++◌, length, get_or, take, drop, replicate, sym, refl, ap, ◌∙◌, mul_assoc, add-mul, one-mul, zero-mul, div-one, arith}
+use Rattle.std.proofs.Common.{◌≡◌, ℕ, zero, suc, ◌+◌, ◌-◌, ◌*◌, ◌/◌, ◌%◌, ◌^◌, ◌<◌, ◌≤◌, true, List, [], ◌∷◌, ◌++◌, length, get_or, take, drop, replicate, sym, refl, ap, ◌∙◌, mul_assoc, add-mul, one-mul, zero-mul, div-one, arith, rules}
 use native.Mathlib.Nat.{mul-mod_left, pow-zero, zero-div}
 use lib.Lanes.{number_l, Each1}
 use Rattle.std.proofs.lemmas.Nat.{pow-add, pow_pos, shl-shr, shr-shr, mod_below, mod_low, shr_high}
@@ -16,7 +16,7 @@ use Rattle.beat.proofs.Widths.{Shape, beat_ends}
 
 -- what stands from bit a on, and what below
 shifted_up : (n a b : ℕ) → n * 2 ^ a / 2 ^ (a + b) ≡ n / 2 ^ b
-shifted_up n a b = sym (shr-shr (n * 2 ^ a) a b) ∙ ap (λ m. m / 2 ^ b) (shl-shr n a)
+shifted_up n a b = rw (← shr-shr (n * 2 ^ a) a b, shl-shr n a) refl
 
 nothing_below : (n a b c : ℕ) → b + c ≤ a → n * 2 ^ a / 2 ^ b % 2 ^ c ≡ 0
 nothing_below n a b c le =
@@ -38,7 +38,7 @@ lane_up n f t =
     ap (λ m. n * 2 ^ (8 * f) / 2 ^ m) {x = 8 * (f + t)} {y = 8 * f + 8 * t} (omega arith) ∙ shifted_up n (8 * f) (8 * t) ∙ ap (λ m. n / m) (pow_bytes t)
 
 short : (k : ℕ) (xs : List ℕ) → length (take k xs) ≤ k
-short k xs = omega (arith, length-take k xs)
+short k xs = search (rules, length-take)
 
 -- zeros in the lanes
 number_zeros : (xs : List ℕ) → Each1 (λ x. x ≡ 0) xs → number_l 256 xs ≡ 0

@@ -1,7 +1,6 @@
 -- A mask as a number, and the k bits of it from bit `at` on.
 use Rattle.std.proofs.Common.{◌≡◌, ℕ, ◌+◌, ◌-◌, ◌*◌, ◌/◌, ◌%◌, ◌^◌, ◌<◌, ◌≤◌, sym, ap, ◌∙◌, mod-eq_of_lt, add-mul, one-mul, div-one, arith, pow_mono, w8, Fits}
 use lib.Bits.{bit_and}
-use lib.Pow.{ones_lt}
 use lib.Arith.{digits_lt}
 use Rattle.std.proofs.lemmas.Nat.{and_mask, shl_whole, shl_below, mod_below, pow_pos, shl-shr, pow-add}
 
@@ -17,11 +16,11 @@ masked_fits x k o r e le =
 
 -- a mask of k ones
 pub all_ones : (k o r : ℕ) → r ≡ 2 ^ k - 1 → r / 2 ^ 0 % 2 ^ k * 2 ^ o ≡ (2 ^ k - 1) * 2 ^ o
-all_ones k o r e = ap (λ n. n % 2 ^ k * 2 ^ o) (div-one r ∙ e) ∙ ap (λ n. n * 2 ^ o) (mod-eq_of_lt (ones_lt k))
+all_ones k o r e = grind (arith, e, div-one, mod-eq_of_lt, pow_pos)
 
 -- what a lane mask gives back
 pub part_again : (x k o : ℕ) → (x % 2 ^ k * 2 ^ o) / 2 ^ o % 2 ^ k ≡ x % 2 ^ k
-part_again x k o = ap (λ m. m % 2 ^ k) (shl-shr (x % 2 ^ k) o) ∙ mod-eq_of_lt (mod_below x (2 ^ k) (pow_pos k))
+part_again x k o = grind (arith, shl-shr, mod-eq_of_lt, mod_below, pow_pos)
 
 -- the mask of the bytes so far stays below its end
 pub grown : (x k k' j m r : ℕ) → k ≡ k' → m < 2 ^ (j * k') → r ≡ x % 2 ^ k * 2 ^ (j * k) + m → r < 2 ^ ((j + 1) * k')

@@ -1,9 +1,9 @@
 -- The bytes of one beat among those of a message.
-use Rattle.std.proofs.Common.{◌≡◌, ℕ, ◌+◌, ◌-◌, ◌*◌, ◌^◌, ◌≤◌, List, [], ◌++◌, length, take, drop, sym, ap, ◌∙◌, zero-mul, arith}
+use Rattle.std.proofs.Common.{◌≡◌, ℕ, ◌+◌, ◌-◌, ◌*◌, ◌≤◌, List, ◌++◌, length, take, drop, ap, ◌∙◌, arith}
 use borrow.Rule.Slice.PartMut.{put_mid}
 use Rattle.std.proofs.lemmas.List.Edits.{length-between}
-use Rattle.std.proofs.lemmas.List.{drop-drop, drop_all, take_all}
-use Rattle.beat.specs.Lanes.{in_lanes, beat_bytes, lane_bytes, put}
+use Rattle.std.proofs.lemmas.List.{drop-drop}
+use Rattle.beat.specs.Lanes.{lane_bytes, put}
 
 -- what a write to the part of a beat leaves
 pub put_part : (f k j l : ℕ) (xs ys : List ℕ) → j * k + k ≤ length xs → ys ≡ lane_bytes f (length (take (j * k + k - j * k) (drop (j * k) xs))) l → put_mid (j * k) (j * k + k - j * k) xs ys ≡ put f k j l xs
@@ -13,9 +13,3 @@ put_part f k j l xs ys room e =
     let got = e ∙ ap (λ n. lane_bytes f n l) long in
     let rest = drop-drop (at + k - at) at xs ∙ ap (λ n. drop n xs) (omega arith) in
     λ i. take at xs ++ (got i ++ rest i)
-
--- a message without data has 0 in every lane
-pub no_lanes : (f k j : ℕ) (xs : List ℕ) → length xs ≡ 0 → 0 ≡ in_lanes f (beat_bytes k j xs)
-no_lanes f k j xs none =
-    let nil : take k (drop (j * k) xs) ≡ [] = ap (take k) (drop_all (j * k) xs (omega arith)) ∙ take_all k [] (omega arith) in
-    sym (ap (in_lanes f) nil ∙ zero-mul (2 ^ (8 * f)))

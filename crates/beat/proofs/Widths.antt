@@ -1,10 +1,8 @@
 -- How a message lies on a bus whose width is a power of two.
-use Rattle.std.proofs.Common.{◌≡◌, ℕ, ◌+◌, ◌-◌, ◌*◌, ◌/◌, ◌%◌, ◌^◌, ◌<◌, ◌≤◌, min, max, Bool, true, false, eqb, Ok, Err, Result, sym, ap, ◌∙◌, ⊎_elim, mul_assoc, add-mul, one-mul, arith, pow_mono}
+use Rattle.std.proofs.Common.{◌≡◌, ℕ, ◌+◌, ◌-◌, ◌*◌, ◌/◌, ◌%◌, ◌^◌, ◌<◌, ◌≤◌, min, max, Bool, true, false, Ok, sym, ap, ◌∙◌, ⊎_elim, mul_assoc, add-mul, one-mul, arith, pow_mono}
 use native.Mathlib.Nat.{mul-mod_left, div-eq_of_lt}
 use Rattle.std.proofs.lemmas.Nat.{pow-add, pow_pos, pow_below, shl-shr, div-add-mod', mod_below, mul-le, mod-mul-add}
-use Rattle.std.proofs.lemmas.Bool.{cases_lt, cases_eq, ne_eqb}
-use Rattle.message.specs.declared.refusal.Refusal.{Refusal}
-use Rattle.message.specs.declared.refusal.Refusal.TheVariants as no
+use Rattle.std.proofs.lemmas.Bool.{cases_lt}
 use Rattle.beat.specs.declared.width.Width.{Width}
 use Rattle.beat.specs.declared.width.Width.TheVariants.{One, Two, Four, Eight}
 use Rattle.beat.specs.Width.{width_bytes, width_of}
@@ -86,35 +84,16 @@ shape Two size address = power 1 size address (omega arith)
 shape Four size address = power 2 size address (omega arith)
 shape Eight size address = power 3 size address (omega arith)
 
-abbrev width_bytes_of : Result Width Refusal → ℕ
-width_bytes_of (Ok w) = width_bytes w
-width_bytes_of (Err e) = 0
-
-no_width : (n : ℕ) (w : Width) → eqb n 1 ≡ false → eqb n 2 ≡ false → eqb n 4 ≡ false → eqb n 8 ≡ false → width_of n ≡ Ok w → ⊥
-no_width n w a b c d e =
-    let none : width_of n ≡ Err no.Parameter = rw (a, b, c, d) in
-    let z : ◌≡◌ {A = ℕ} 0 1 = cc in
-    omega arith
-
 -- the width of a number that is one
 pub width_is : (n : ℕ) (w : Width) → width_of n ≡ Ok w → n ≡ width_bytes w
-width_is n w e =
-    let a = cases_eq n 1 in
-    ⊎_elim (λ (p : n ≡ 1). p ∙ ap width_bytes_of (sym (ap width_of p) ∙ e))
-    (λ p. ⊎_elim (λ (q : n ≡ 2). q ∙ ap width_bytes_of (sym (ap width_of q) ∙ e))
-    (λ q. ⊎_elim (λ (r : n ≡ 4). r ∙ ap width_bytes_of (sym (ap width_of r) ∙ e))
-    (λ r. ⊎_elim (λ (s : n ≡ 8). s ∙ ap width_bytes_of (sym (ap width_of s) ∙ e))
-    (λ s. absurd (no_width n w (ne_eqb n 1 p) (ne_eqb n 2 q) (ne_eqb n 4 r) (ne_eqb n 8 s) e))
-    (cases_eq n 8)) (cases_eq n 4)) (cases_eq n 2)) a
+width_is n w e = grind (arith, e)
 
 -- beat j of a message lies within it
 pub beat_room : (j n k : ℕ) → j < n → j * k + k ≤ n * k
 beat_room j n k h = omega (arith, mul-le (j + 1) k n k (omega arith) (omega arith), add-mul j 1 k, one-mul k)
 
 pub beat_ends : {w size address : ℕ} → Shape w size address → (j k : ℕ) → j < beat_count true w size → k ≡ per_beat w size → j * k + k ≤ 2 ^ size
-beat_ends {w} {size} s j k lt e =
-    let n = beat_count true w size in
-    omega (arith, beat_room j n k lt, ap (λ m. n * m) e, s.whole)
+beat_ends {w} {size} s j k lt e = grind (arith, beat_room j (beat_count true w size) k lt, e, s.whole)
 
 -- a message has no more beats than its data would fill
 pub count_most : {w size address : ℕ} → Shape w size address → (b : Bool) (j : ℕ) → j < beat_count b w size → j < beat_count true w size

@@ -49,7 +49,7 @@ impl Lanes {
     }
 
     // The lanes of beat `index` of a message.
-    #[tactic(auto, using(crate::proofs::Parts::no_lanes))]
+    #[tactic(auto, using(std::proofs::lemmas::List::drop_all, std::proofs::lemmas::List::take_all))]
     pub(crate) fn cut(self, data: &[u8], index: usize) -> u64
         requires { (length «data».now ≢ 0) → index * self.count + self.count ≤ length «data».now }
         ensures { result ≡ in_lanes self.first (beat_bytes self.count index «data».now) }
