@@ -1,7 +1,8 @@
 use crate::begun::Begun;
-use crate::request::RequestBeat;
-use crate::response::burst::Burst;
-use crate::response::{ResponseBeat, Sideband};
+use crate::burst::{Burst, begin};
+use crate::cut::cut;
+use crate::request::ChannelA;
+use crate::response::{ChannelD, ResponseBeat, Sideband};
 use message::request::RequestHead;
 use message::response::{Denial, ResponseHead};
 use std::test::Fail;
@@ -17,12 +18,12 @@ fn a_narrow_put_lies_in_the_lanes_of_its_addresses(rt: HostRuntime) -> Result<()
         address: 6,
         mask: 3,
     };
-    let Some(beat) = RequestBeat::cut(put, &[0x11, 0x22], 4, 0)? else {
+    let Some(beat) = cut::<ChannelA>(put, &[0x11, 0x22], 4, 0)? else {
         return Err(Fail::new("no beat"));
     };
     assert!(rt; beat.mask == 0xc && beat.lanes == 0x2211_0000);
-    assert!(rt; RequestBeat::cut(put, &[0x11, 0x22], 4, 1)?.is_none());
-    match RequestBeat::cut(put, &[0x11, 0x22], 3, 0) {
+    assert!(rt; cut::<ChannelA>(put, &[0x11, 0x22], 4, 1)?.is_none());
+    match cut::<ChannelA>(put, &[0x11, 0x22], 3, 0) {
         Ok(_) => Err(Fail::new("a width of 3")),
         Err(refusal) => {
             assert!(rt; u8::from(refusal) == 16);
@@ -41,14 +42,14 @@ fn a_mask_is_cut_into_lane_masks(rt: HostRuntime) -> Result<(), Fail> {
         address: 0x40,
         mask: 0xa55a,
     };
-    let Some(first) = RequestBeat::cut(put, &[0; 16], 8, 0)? else {
+    let Some(first) = cut::<ChannelA>(put, &[0; 16], 8, 0)? else {
         return Err(Fail::new("no first beat"));
     };
-    let Some(second) = RequestBeat::cut(put, &[0; 16], 8, 1)? else {
+    let Some(second) = cut::<ChannelA>(put, &[0; 16], 8, 1)? else {
         return Err(Fail::new("no second beat"));
     };
     assert!(rt; first.mask == 0x5a && second.mask == 0xa5);
-    assert!(rt; RequestBeat::cut(put, &[0; 16], 8, 2)?.is_none());
+    assert!(rt; cut::<ChannelA>(put, &[0; 16], 8, 2)?.is_none());
     Ok(())
 }
 
@@ -68,29 +69,30 @@ fn denied_data_are_read_as_zeros(rt: HostRuntime) -> Result<(), Fail> {
             agent: 1,
         },
     };
-    let Some(beat) = ResponseBeat::cut(denied, &[0xee; 8], 4, 1)? else {
+    let Some((beat, side)) = cut::<ChannelD>(denied, &[0xee; 8], 4, 1)? else {
         return Err(Fail::new("no second beat"));
     };
     assert!(rt; beat.denied && beat.corrupt && beat.lanes == 0);
+    assert!(rt; side.address == 0x18 && side.denial.place == 0x18);
+    assert!(rt; side.denial.cause == 5 && side.denial.agent == 1);
     let noisy = ResponseBeat {
         lanes: 0xffff_ffff,
         ..beat
     };
     let mut buffer = [7; 9];
-    let beside = Sideband::of(denied);
+    let beside = Sideband::from(denied);
     let mut number = 0;
-    let read = match noisy.begin(beside, 4, &mut buffer)? {
+    let read = match begin::<ChannelD>((noisy, beside), 4, &mut buffer)? {
         Begun::Whole(_) => None,
         Begun::Half(burst) => match burst.next(
-            ResponseBeat { source: 9, ..noisy },
-            beside,
+            (ResponseBeat { source: 9, ..noisy }, beside),
             &mut buffer,
         ) {
             Ok(begun) => ended(begun),
             Err(back) => {
                 let (refusal, burst) = back;
                 number = u8::from(refusal);
-                match burst.next(noisy, beside, &mut buffer) {
+                match burst.next((noisy, beside), &mut buffer) {
                     Ok(begun) => ended(begun),
                     Err(again) => {
                         again.1.give_up();
@@ -110,7 +112,7 @@ fn denied_data_are_read_as_zeros(rt: HostRuntime) -> Result<(), Fail> {
     Ok(())
 }
 
-fn ended(begun: Begun<ResponseHead, Burst>) -> Option<ResponseHead> {
+fn ended(begun: Begun<ResponseHead, Burst<ChannelD>>) -> Option<ResponseHead> {
     match begun {
         Begun::Whole(head) => Some(head),
         Begun::Half(burst) => {
