@@ -17,7 +17,7 @@ use Rattle.beat.specs.declared.begun.Begun.TheVariants.{Whole, Half}
 use Rattle.beat.specs.declared.header.Header.{Header}
 use Rattle.beat.specs.declared.width.Width.{Width}
 use Rattle.beat.specs.Begun.{UnlessRefused}
-use Rattle.beat.specs.Lanes.{beat_count, beat_bytes, beat_bits, in_lanes, per_beat, first_lane, lane_byte, Sent, Received}
+use Rattle.beat.specs.Lanes.{beat_count, beat_bytes, beat_bits, in_lanes, per_beat, lane_byte, Sent, Received}
 use Rattle.beat.specs.Channel.{Beats, Laws, Right, Part, agree, same_header, more_mask, lane_of, per, beats, sent_bytes, heard, message_beat, LaidOut, same_head, admitted, judged, carries, Due, head_after, Stands, Taken, mask_read, LanesRead, First, Began}
 use Rattle.beat.specs.Width.{width_bytes, width_of}
 use Rattle.beat.proofs.Lays.{bytes_sent, bits_sent, bytes_received, bits_received}
@@ -180,6 +180,7 @@ module _ {K H B : Type 0} (ks : Kinds K) (ch : Beats K H B) where
       let lanes = in_lanes (lane_of ks ch w h) (beat_bytes (per ks ch w h) j (sent_bytes ks ch h bytes)) in
       let bits : ch.lane_mask b ≡ mask = ap ch.lane_mask e ∙ laws.cut_mask k h (lane_of ks ch w h) (per ks ch w h) j lanes in
       let filled : ch.lanes b ≡ lanes = ap ch.lanes e ∙ laws.cut_lanes k h mask lanes in
-      subst (λ m. LaidOut ks ch m h bytes j (Ok (Some b))) (sym is)
-      (subst (λ m. Sent v q.address q.size j (bit (ch.mask h)) (bit m)) (sym bits) (bits_sent v q.size q.address s j lt (ch.mask h)),
-      subst (λ m. Sent v q.address q.size j (λ i. get_or (sent_bytes ks ch h bytes) i 0) (lane_byte m)) (sym filled) (bytes_sent v q.size q.address s j lt (sent_bytes ks ch h bytes) (sent_small q.denied bytes small)))
+      subst (λ m. LaidOut ks ch m h bytes j (Ok (Some b))) (sym is) (
+        subst (λ m. Sent v q.address q.size j (bit (ch.mask h)) (bit m)) (sym bits) (bits_sent v q.size q.address s j lt (ch.mask h)),
+        subst (λ m. Sent v q.address q.size j (λ i. get_or (sent_bytes ks ch h bytes) i 0) (lane_byte m)) (sym filled) (bytes_sent v q.size q.address s j lt (sent_bytes ks ch h bytes) (sent_small q.denied bytes small)),
+      )

@@ -1,5 +1,5 @@
 -- A request that can be cut.
-use Rattle.std.proofs.Common.{◌≡◌, length, Ok, Err, Result, refl}
+use Rattle.std.proofs.Common.{length, Ok, Err, Result, refl}
 use Rattle.std.specs.Prelude.{IfOk}
 use Rattle.message.specs.declared.refusal.Refusal.{Refusal}
 use Rattle.message.specs.declared.operation.Operation.{Operation}

@@ -1,6 +1,5 @@
 -- Channel A: requests in beats.
-use Rattle.std.specs.Prelude.{◌≡◌, ℕ, ◌/◌, ◌%◌, ◌*◌, ◌^◌, Bool, false, cond, Ok, Err, Result, ◌==◌, refl}
-use Rattle.message.specs.declared.refusal.Refusal.{Refusal}
+use Rattle.std.specs.Prelude.{ℕ, ◌/◌, ◌%◌, ◌*◌, ◌^◌, Bool, false, cond, Ok, Err, ◌==◌, refl}
 use Rattle.message.specs.declared.refusal.Refusal.TheVariants as no
 use Rattle.message.specs.declared.operation.Operation.{Operation}
 use Rattle.message.specs.declared.request.RequestHead.{RequestHead}

@@ -1,8 +1,7 @@
 -- Channel D: responses in beats, each beat with what travels beside it.
-use Rattle.std.specs.Prelude.{◌≡◌, ℕ, ◌/◌, ◌%◌, ◌*◌, ◌^◌, Bool, cond, ◌&&◌, Ok, Err, Result, refl}
+use Rattle.std.specs.Prelude.{◌≡◌, ℕ, ◌/◌, ◌%◌, ◌*◌, ◌^◌, Bool, cond, ◌&&◌, Ok, Err, refl}
 use Rattle.std.proofs.Common.{◌∙◌, ap, sym, arith, zero-mul}
 use Rattle.std.proofs.Math.Nat.{zero-div, zero-mod}
-use Rattle.message.specs.declared.refusal.Refusal.{Refusal}
 use Rattle.message.specs.declared.refusal.Refusal.TheVariants as no
 use Rattle.message.specs.declared.response.ResponseHead.{ResponseHead}
 use Rattle.message.specs.declared.response.ResponseOpcode.{ResponseOpcode}

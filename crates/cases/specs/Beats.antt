@@ -2,9 +2,10 @@
 use Rattle.std.specs.Prelude.{◌≡◌, ℕ, List, [], Some, None, Ok, Err, Option, Result}
 use Rattle.message.specs.declared.refusal.Refusal.{Refusal}
 use Rattle.message.specs.declared.request.RequestHead.{RequestHead}
-use Rattle.message.specs.Request.{request}
+use Rattle.message.specs.Request.{operation_kinds}
 use Rattle.beat.specs.declared.request.RequestBeat.{RequestBeat}
-use Rattle.beat.specs.Request.{cut_request}
+use Rattle.beat.specs.Channel.{cut_message}
+use Rattle.beat.specs.Request.{request_beats}
 use Rattle.cases.specs.declared.beats.BeatCases.{BeatCases}
 
 -- a Get of two bytes
@@ -19,7 +20,7 @@ Masked mask (Err e) = ⊥
 
 -- a beat that was cut, and its lane mask
 pub record Cut (width : ℕ) (q : RequestHead) (bytes : List ℕ) (index mask : ℕ) (r : Result (Option RequestBeat) Refusal) : Type 0 where
-  pub beat : r ≡ cut_request width (request q bytes) index
+  pub beat : r ≡ cut_message operation_kinds request_beats width q bytes index
   pub masked : Masked mask r
 
 pub record WorkedBeats (c : BeatCases) : Type 0 where

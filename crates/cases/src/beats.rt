@@ -1,6 +1,7 @@
 ghost use Rattle.cases.specs.Beats.{WorkedBeats};
 
-use beat::request::RequestBeat;
+use beat::cut::cut;
+use beat::request::{ChannelA, RequestBeat};
 use message::refusal::Refusal;
 use message::request::RequestHead;
 
@@ -23,6 +24,6 @@ pub fn beat_cases() -> BeatCases
         mask: 3,
     };
     BeatCases {
-        beat_of_2_at_6: RequestBeat::cut(pair, &[], 4, 0),
+        beat_of_2_at_6: cut::<ChannelA>(pair, &[], 4, 0),
     }
 }

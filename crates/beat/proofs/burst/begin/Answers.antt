@@ -1,4 +1,4 @@
-use Rattle.std.proofs.Common.{◌≡◌, false, length, None, sym, ap, ◌∙◌, subst, rules}
+use Rattle.std.proofs.Common.{◌≡◌, false, length, None, sym, ◌∙◌, subst, rules}
 use Rattle.std.proofs.lemmas.Bool.{both_ways}
 use Rattle.beat.specs.declared.begun.Begun.TheVariants.{Whole}
 use Rattle.beat.specs.Channel.{part, Due, LanesRead, Taken}

@@ -1,4 +1,4 @@
-use Rattle.std.proofs.Common.{◌≡◌, ◌+◌, ◌*◌, ◌≤◌, length, sym, ap, ◌∙◌, subst, arith, rules}
+use Rattle.std.proofs.Common.{length, sym, ap, ◌∙◌, arith, rules}
 use Rattle.beat.specs.Lanes.{beat_count, per_beat}
 use Rattle.beat.specs.Width.{width_bytes}
 use Rattle.beat.proofs.Digits.{each_byte}

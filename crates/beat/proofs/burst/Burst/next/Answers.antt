@@ -1,4 +1,4 @@
-use Rattle.std.proofs.Common.{◌^◌, ◌≤◌, length, sym}
+use Rattle.std.proofs.Common.{length, sym}
 use Rattle.beat.specs.Channel.{part}
 use Rattle.beat.proofs.Reading.{later_room, lanes_read}
 use Rattle.beat.proofs.burst.Burst.next.Goals as goal

@@ -1,4 +1,4 @@
-use Rattle.std.proofs.Common.{◌≡◌, ◌+◌, ◌*◌, ◌<◌, true, sym, ap, ◌∙◌, subst, arith, rules}
+use Rattle.std.proofs.Common.{◌≡◌, ◌+◌, ◌<◌, true, sym, ap, ◌∙◌, subst, arith, rules}
 use Rattle.beat.specs.Lanes.{per_beat}
 use Rattle.beat.specs.Width.{width_bytes}
 use Rattle.beat.specs.Channel.{per, beats, head_after, Due}
