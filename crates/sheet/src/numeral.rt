@@ -1,7 +1,8 @@
 ghost use Rattle.std.specs.Prelude.{◌≡◌, IfOk, vec_items};
 ghost use Rattle.std.specs.Option.{option_map};
-ghost use Rattle.sheet.specs.Numeral.{radix, digit_of, appended_of, number_of, bytes_of, byte_of};
+ghost use Rattle.sheet.specs.Numeral.{radix, digit_of, appended_of, number_of, bytes_of};
 
+use hex::FromHexError;
 use std::alloc::{AllocError, Global};
 
 #[derive(Clone, Copy)]
@@ -11,7 +12,7 @@ pub enum Base {
 }
 
 impl Base {
-    fn radix(self) -> u64
+    fn radix(self) -> u32
         ensures { result ≡ radix self }
     {
         match self {
@@ -21,15 +22,10 @@ impl Base {
     }
 }
 
-fn digit(byte: u8, base: Base) -> Option<u8>
+fn digit(byte: u8, base: Base) -> Option<u32>
     ensures { result ≡ digit_of base byte }
 {
-    match (byte, base) {
-        (b'0'..=b'9', _) => Some(byte - b'0'),
-        (b'a'..=b'f', Base::Hexadecimal) => Some(byte - b'a' + 10),
-        (b'A'..=b'F', Base::Hexadecimal) => Some(byte - b'A' + 10),
-        _ => None,
-    }
+    char::from(byte).to_digit(base.radix())
 }
 
 // `value` with the digit `byte` behind it, where that is at most `limit`.
@@ -38,7 +34,7 @@ fn appended(value: u64, byte: u8, base: Base, limit: u64) -> Option<u64>
 {
     let digit = digit(byte, base)?;
     let longer = value
-        .checked_mul(base.radix())?
+        .checked_mul(u64::from(base.radix()))?
         .checked_add(u64::from(digit))?;
     if longer <= limit { Some(longer) } else { None }
 }
@@ -50,41 +46,18 @@ pub fn number(word: &[u8], base: Base, limit: u64) -> Option<u64>
     if word.is_empty() {
         return None;
     }
-    let mut value: u64 = 0;
-    for byte in word {
-        // Further digits only make it larger, so a value past the limit is past it for good.
-        value = appended(value, *byte, base, limit)?;
-    }
-    Some(value)
-}
-
-fn byte(high: u8, low: u8) -> Option<u8>
-    ensures { result ≡ byte_of high low }
-{
-    match (
-        digit(high, Base::Hexadecimal),
-        digit(low, Base::Hexadecimal),
-    ) {
-        (Some(high), Some(low)) => Some(high * 16 + low),
-        _ => None,
-    }
+    // Further digits only make it larger, so a value past the limit is past it for good.
+    word.iter()
+        .try_fold(0, |value, byte| appended(value, *byte, base, limit))
 }
 
 // The bytes that `word` writes by pairs of hexadecimal digits, the high half first.
 pub fn byte_pairs(heap: Global, word: &[u8]) -> Result<Option<Vec<u8>>, AllocError>
     ensures { IfOk result (λ bytes. option_map vec_items bytes ≡ bytes_of word.now) }
 {
-    let mut bytes = Vec::new(heap);
-    let mut rest = word;
-    while let [high, low, after @ ..] = rest {
-        let Some(byte) = byte(*high, *low) else {
-            return Ok(None);
-        };
-        bytes.push(byte)?;
-        rest = after;
+    match hex::decode(heap, word) {
+        Ok(bytes) => Ok(Some(bytes)),
+        Err(FromHexError::OutOfMemory) => Err(AllocError),
+        Err(_) => Ok(None),
     }
-    if !rest.is_empty() {
-        return Ok(None);
-    }
-    Ok(Some(bytes))
 }
