@@ -1,6 +1,7 @@
 -- The head of a request by its fields, and a line by its words.
-use Rattle.std.proofs.Common.{◌≡◌, ℕ, zero, suc, ◌≤◌, List, [], ◌∷◌, map, length, get_or, take, ◌-◌, ◌^◌, ◌<◌, inl, inr, Bool, true, false, cond, leb, Option, Some, None, Result, Ok, Err, sym, subst, refl, ap, ◌∙◌, arith, Bor, ne_eqb, le-leb, leb-false}
+use Rattle.std.proofs.Common.{◌≡◌, ℕ, ◌≤◌, List, [], ◌∷◌, map, length, get_or, take, ◌-◌, ◌^◌, ◌<◌, inl, inr, Bool, true, false, cond, leb, Option, Some, None, Result, Ok, Err, sym, subst, refl, ap, ◌∙◌, arith, Bor, ne_eqb, le-leb, leb-false}
 use lib.ListN.{length-map}
+use Rattle.std.proofs.Math.ListN.{get_or-map}
 use borrow.Author.Tests.{lt-leb}
 use native.Mathlib.Nat.{one-le-pow, pow-le-pow_right}
 use Rattle.std.proofs.lemmas.Bool.{cases_lt}
@@ -14,6 +15,7 @@ use Rattle.sheet.specs.declared.line.Entry.{Entry}
 use Rattle.sheet.specs.declared.line.LineError.{LineError}
 use Rattle.sheet.specs.declared.line.LineError.TheVariants as error
 use Rattle.sheet.specs.declared.numeral.Base.{Base}
+use Rattle.sheet.specs.declared.numeral.Base.TheVariants.{Decimal, Hexadecimal}
 use Rattle.message.specs.Request.{Request}
 use Rattle.sheet.specs.Numeral.{and_then, at_most, bytes_of, digits_of, number_of, value}
 use Rattle.sheet.specs.Line.{small_of, address_of, mask_of, word, head_by, head_of, request_by, request_of, told, Reading, reading, nothing, unreadable, blaming, ReadsField, view, view_entry, view_error}
@@ -23,12 +25,10 @@ abbrev pub absent : Bor (List ℕ)
 absent = record { ref_ptr = (0, 0); now = [] }
 
 word_now : (words : List (Bor (List ℕ))) (k : ℕ) → (get_or words k absent).now ≡ word (map (λ x. x.now) words) k
-word_now [] k = refl
-word_now (w ∷ words) zero = refl
-word_now (w ∷ words) (suc k) = word_now words k
+word_now words k = sym (get_or-map (λ x. x.now) words k absent)
 
 -- the number that a field of k bits holds, where its type takes no larger one
-pub field_read : (E : Type 0) (k : ℕ) (base : Base) (word : List ℕ) (f : Field) (r : Result ℕ Field) → k ≤ 64 → ReadsField {E = E} (λ n t. OkIff t (n < 2 ^ k) n) base word f r → r ≡ ok_or (number_of base (2 ^ k - 1) word) f
+field_read : (E : Type 0) (k : ℕ) (base : Base) (word : List ℕ) (f : Field) (r : Result ℕ Field) → k ≤ 64 → ReadsField {E = E} (λ n t. OkIff t (n < 2 ^ k) n) base word f r → r ≡ ok_or (number_of base (2 ^ k - 1) word) f
 unfolding number_of
 field_read E k base [] f r h reads = reads
 field_read E k base (b ∷ bs) f r h reads = by (digits_of base (b ∷ bs)) reads
@@ -47,6 +47,15 @@ field_read E k base (b ∷ bs) f r h reads = by (digits_of base (b ∷ bs)) read
     by : (o : Option (List ℕ)) → MatchOption (and_then o (λ ds. at_most (2 ^ 64 - 1) (value base ds))) (r ≡ Err f) (λ n. (t : Result ℕ E) × OkIff t (n < 2 ^ k) n × (r ≡ blaming f t)) → r ≡ ok_or (and_then o (λ ds. at_most (2 ^ k - 1) (value base ds))) f
     by None reads = reads
     by (Some ds) reads = of_value (value base ds) (leb (value base ds) (2 ^ 64 - 1)) refl reads
+
+pub small : (E : Type 0) (word : List ℕ) (f : Field) (r : Result ℕ Field) → ReadsField {E = E} (λ n t. OkIff t (n < 2 ^ 8) n) Decimal word f r → r ≡ ok_or (small_of word) f
+small E word f r reads = field_read E 8 Decimal word f r (omega arith) reads
+
+pub address : (E : Type 0) (word : List ℕ) (f : Field) (r : Result ℕ Field) → ReadsField {E = E} (λ n t. OkIff t (n < 2 ^ 32) n) Hexadecimal word f r → r ≡ ok_or (address_of word) f
+address E word f r reads = field_read E 32 Hexadecimal word f r (omega arith) reads
+
+pub mask : (E : Type 0) (word : List ℕ) (f : Field) (r : Result ℕ Field) → ReadsField {E = E} (λ n t. OkIff t (n < 2 ^ 64) n) Hexadecimal word f r → r ≡ ok_or (mask_of word) f
+mask E word f r reads = field_read E 64 Hexadecimal word f r (omega arith) reads
 
 -- the error that a result is, and that a `?` passes on as it is
 pub is_error : {A E : Type 0} (r : Result A E) (e : E) → IsErrAnd r (λ d. d ≡ e) → r ≡ Err e

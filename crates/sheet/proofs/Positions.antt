@@ -102,7 +102,7 @@ abbrev goes_on : {E : Type 0} → Option ℕ → ControlFlow E ℕ → Type 0
 goes_on r flow = r ≡ continue_value flow
 
 -- `try_fold` over a word reads it on, where each call appends a digit
-module _ (base : Base) (limit : ℕ) {F : Type 0} (g : Mut F (ℕ × (Bor ℕ × Unit {0})) (Option ℕ)) (f : F) (appends : (n : ℕ) (x : Bor ℕ) (r : Option ℕ) (q : F) → Called g f (n, (x, tt)) r q → (q ≡ f) × (r ≡ appended_of base limit n x.now)) where
+module _ (base : Base) (limit : ℕ) {F : Type 0} {g : Mut F (ℕ × (Bor ℕ × Unit {0})) (Option ℕ)} {f : F} (appends : (n : ℕ) (x : Bor ℕ) (r : Option ℕ) (q : F) → Called g f (n, (x, tt)) r q → (q ≡ f) × (r ≡ appended_of base limit n x.now)) where
   turns : (E : Type 0) (xs : List (Bor ℕ)) (rest : List ℕ) (p q : F × ℕ) → p.0 ≡ f → FoldsTo (TryFoldTurn g (goes_on {E = E})) p xs q → (q.0 ≡ f) × (reads_on base limit p.1 (map (λ x. x.now) xs ++ rest) ≡ reads_on base limit q.1 rest)
   turns E [] rest p q same done = (ap (λ s. s.0) (sym done) ∙ same, ap (λ s. reads_on base limit s.1 rest) done)
   turns E (x ∷ xs) rest p q same turn =

@@ -1,5 +1,5 @@
 -- What a line of a sheet says.
-use Rattle.std.specs.Prelude.{◌≡◌, ℕ, ◌-◌, ◌^◌, cond, ◌||◌, List, [], length, Some, None, Ok, Err, vec_items, Option, Result, ◌==◌, slice_index_or, MatchOption}
+use Rattle.std.specs.Prelude.{◌≡◌, ℕ, ◌-◌, ◌^◌, cond, ◌||◌, List, [], length, Some, None, Ok, Err, vec_items, Option, Result, ◌==◌, slice_index_or, IfSome, MatchOption}
 use Rattle.message.specs.declared.request.RequestHead.{RequestHead}
 use Rattle.message.specs.Request.{Request}
 use Rattle.sheet.specs.declared.fault.Field.{Field}
@@ -106,3 +106,7 @@ abbrev pub view : Result (Option Entry) LineError → Option Reading
 view (Ok None) = Some nothing
 view (Ok (Some entry)) = view_entry (Ok entry)
 view (Err why) = view_error why
+
+-- an answer says this of its line; one for want of memory says nothing of it
+abbrev pub Tells : Result (Option Entry) LineError → Reading → Type 0
+Tells answer what = IfSome (view answer) (λ said. said ≡ what)

@@ -1,5 +1,10 @@
 -- Bytes of text.
-use Rattle.std.specs.Prelude.{ℕ, Bool, ◌||◌, ◌==◌}
+use Rattle.std.specs.Prelude.{ℕ, Bool, ◌||◌, ◌==◌, List, map}
+use denote.Ref.{Bor}
+
+-- the texts that are lent
+abbrev pub texts : List (Bor (List ℕ)) → List (List ℕ)
+texts lent = map (λ x. x.now) lent
 
 -- the end of a line
 abbrev pub line_feed : ℕ → Bool

@@ -1,10 +1,11 @@
-ghost use Rattle.std.specs.Prelude.{◌≡◌, ℕ, List, map, IfSome};
+ghost use Rattle.std.specs.Prelude.{◌≡◌, ℕ, List, IfSome};
 ghost use Rattle.std.specs.List.{AllByRecursion};
 ghost use Rattle.message.specs.Request.{Request};
 ghost use Rattle.sheet.specs.declared.fault.Fault.TheVariants as fault;
 ghost use Rattle.sheet.specs.declared.line.LineError.TheVariants as error;
+ghost use Rattle.sheet.specs.Text.{texts};
 ghost use Rattle.sheet.specs.Words.{Typed, spaced};
-ghost use Rattle.sheet.specs.Line.{head_of, request_of, told, request, reading, view, view_entry, line_of, ReadsField};
+ghost use Rattle.sheet.specs.Line.{head_of, request_of, told, request, reading, view_entry, line_of, ReadsField, Tells};
 ghost use Rattle.sheet.specs.Written.{written, Fits};
 
 use crate::fault::{Fault, Field};
@@ -58,7 +59,7 @@ where
 
 // The first word at fault is the one that is told.
 fn read_head(words: &[&[u8]; 6]) -> Result<RequestHead, Field>
-    ensures { result ≡ head_of (map (λ x. x.now) words.now) }
+    ensures { result ≡ head_of (texts words.now) }
 {
     Ok(RequestHead {
         opcode: read_field(words[0], Base::Decimal, Field::Opcode)?,
@@ -71,7 +72,7 @@ fn read_head(words: &[&[u8]; 6]) -> Result<RequestHead, Field>
 }
 
 fn read_request(heap: Global, words: &[&[u8]; 6], data: &[u8]) -> Result<Entry, LineError>
-    ensures { IfSome (view_entry result) (λ said. said ≡ told (request_of (map (λ x. x.now) words.now) «data».now)) }
+    ensures { IfSome (view_entry result) (λ said. said ≡ told (request_of (texts words.now) «data».now)) }
 {
     let head = read_head(words)?;
     let data = byte_pairs(heap, data)?.ok_or(Field::Data)?;
@@ -79,7 +80,7 @@ fn read_request(heap: Global, words: &[&[u8]; 6], data: &[u8]) -> Result<Entry, 
 }
 
 fn read_words(heap: Global, words: &[&[u8]]) -> Result<Option<Entry>, LineError>
-    ensures { IfSome (view result) (λ said. said ≡ reading (map (λ x. x.now) words.now)) }
+    ensures { Tells result (reading (texts words.now)) }
 {
     if words.is_empty() {
         return Ok(None);
@@ -93,9 +94,9 @@ fn read_words(heap: Global, words: &[&[u8]]) -> Result<Option<Entry>, LineError>
 
 // The request of one line of a sheet, if the line has words. Those that have no blank and no `#` are read as they were typed.
 pub fn read_line(heap: Global, line: &[u8]) -> Result<Option<Entry>, LineError>
-    ensures said { IfSome (view result) (λ said. said ≡ line_of line.now) }
-    ensures typed { (ws : List (List ℕ)) → AllByRecursion Typed ws → line.now ≡ spaced ws → IfSome (view result) (λ said. said ≡ reading ws) }
-    ensures written { (q : Request) → Fits q → line.now ≡ written q → IfSome (view result) (λ said. said ≡ request q) }
+    ensures said { Tells result (line_of line.now) }
+    ensures typed { (ws : List (List ℕ)) → AllByRecursion Typed ws → line.now ≡ spaced ws → Tells result (reading ws) }
+    ensures written { (q : Request) → Fits q → line.now ≡ written q → Tells result (request q) }
 {
     let words = words(heap, line)?;
     read_words(heap, words.as_slice())

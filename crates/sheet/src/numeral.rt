@@ -20,19 +20,19 @@ impl Base {
             Base::Hexadecimal => 16,
         }
     }
-}
 
-fn digit(byte: u8, base: Base) -> Option<u32>
-    ensures { result ≡ digit_of base byte }
-{
-    char::from(byte).to_digit(base.radix())
+    fn digit(self, byte: u8) -> Option<u32>
+        ensures { result ≡ digit_of self byte }
+    {
+        char::from(byte).to_digit(self.radix())
+    }
 }
 
 // `value` with the digit `byte` behind it, where that is at most `limit`.
 fn appended(value: u64, byte: u8, base: Base, limit: u64) -> Option<u64>
     ensures { result ≡ appended_of base limit value byte }
 {
-    let digit = digit(byte, base)?;
+    let digit = base.digit(byte)?;
     let longer = value
         .checked_mul(u64::from(base.radix()))?
         .checked_add(u64::from(digit))?;

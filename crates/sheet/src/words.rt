@@ -1,5 +1,5 @@
-ghost use Rattle.std.specs.Prelude.{◌≡◌, map, IfOk};
-ghost use Rattle.sheet.specs.Text.{blank};
+ghost use Rattle.std.specs.Prelude.{◌≡◌, IfOk};
+ghost use Rattle.sheet.specs.Text.{blank, texts};
 ghost use Rattle.sheet.specs.Words.{said, words_of};
 
 use std::alloc::{AllocError, Global};
@@ -20,7 +20,7 @@ fn before_comment(line: &[u8]) -> &[u8]
 
 // The words of a line, in their order. A comment has none.
 pub fn words<'a>(heap: Global, line: &'a [u8]) -> Result<Vec<&'a [u8]>, AllocError>
-    ensures { IfOk result (λ words. map (λ x. x.now) words.items ≡ words_of line.now) }
+    ensures { IfOk result (λ words. texts words.items ≡ words_of line.now) }
 {
     before_comment(line)
         .split(|byte| is_blank(*byte))

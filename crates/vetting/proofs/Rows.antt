@@ -2,6 +2,7 @@
 use Rattle.std.proofs.Common.{◌≡◌, ℕ, suc, ◌+◌, ◌<◌, ◌≤◌, List, [], ◌∷◌, ◌++◌, map, length, get_or, take, fold, Option, sym, refl, ap, ◌∙◌, append_assoc, add-zero, arith, Bor}
 use lib.ListN.{length-map}
 use Rattle.std.proofs.lemmas.List.{append-nil, get_or-map, take_more, take_all, length-take-le}
+use Rattle.std.proofs.lemmas.List.Sums.{fold-append}
 use Rattle.sheet.specs.Line.{line_of}
 use Rattle.sheet.proofs.Fields.{absent}
 use Rattle.vetting.specs.declared.address_map.AddressMap.{AddressMap}
@@ -40,10 +41,6 @@ pub rows_all : (m : AddressMap) (items : List (Bor (List ℕ))) (i : ℕ) (lines
 rows_all m items i lines le same =
     ap (rows_of m 1) (take_all i lines (omega (arith, ap length same, length-map items (λ x. x.now))))
 
-folded_append : (t : Tally) (xs ys : List Row) → fold by_row t (xs ++ ys) ≡ fold by_row (fold by_row t xs) ys
-folded_append t [] ys = refl
-folded_append t (x ∷ xs) ys = folded_append (by_row t x) xs ys
-
 -- the counts with a line more
 pub tally_more : (t : Tally) (old row : List Row) → t ≡ tally_of old → fold by_row t row ≡ tally_of (old ++ row)
-tally_more t old row e = ap (λ u. fold by_row u row) e ∙ sym (folded_append empty old row)
+tally_more t old row e = ap (λ u. fold by_row u row) e ∙ sym (fold-append by_row empty old row)

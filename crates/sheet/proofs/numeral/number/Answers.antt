@@ -9,5 +9,5 @@ returns-then-is_empty c = sym (no_word _ _ _ (true-eqb _ 0 c.if-is_empty.ensures
 pub returns : goal.returns
 returns c =
     let word = c.args.word.now in
-    reads_folded c.args.base c.args.limit _ _ (λ n x r q k. search (rules, tests)) _ _ 0 word c.try_fold.result c.try_fold.ensures.ran (YieldsList-from_slice word cc)
+    reads_folded c.args.base c.args.limit (λ n x r q k. search (rules, tests)) _ _ 0 word c.try_fold.result c.try_fold.ensures.ran (YieldsList-from_slice word cc)
     ∙ reads_word _ _ _ (omega (arith, false-eqb _ 0 c.if-is_empty.ensures))
