@@ -178,9 +178,15 @@ odd_none i (a ∷ b ∷ word) h = none (pair_value a b i) (decode_pairs (i + 2) 
     none (Ok byte) (Err d) e = refl
     none (Ok byte) (Ok bytes) e = absurd (let z : ◌≡◌ {A = ℕ} 0 1 = cc in omega arith)
 
-pub decoded : (word : List ℕ) → result_ok (decode_of word) ≡ bytes_of word
+decoded : (word : List ℕ) → result_ok (decode_of word) ≡ bytes_of word
 decoded word = by (length word % 2 == 1) refl
   where
     by : (t : Bool) → (length word % 2 == 1) ≡ t → result_ok (decode_of word) ≡ bytes_of word
     by true e = rw e (sym (odd_none 0 word (true-eqb (length word % 2) 1 (sym e))) ∙ pairs_same 0 word)
     by false e = rw e (pairs_same 0 word)
+
+pub decoded_some : (word bytes : List ℕ) → decode_of word ≡ Ok bytes → bytes_of word ≡ Some bytes
+decoded_some word bytes e = sym (decoded word) ∙ ap result_ok e
+
+pub decoded_none : (word : List ℕ) (why : FromHexError) → decode_of word ≡ Err why → bytes_of word ≡ None
+decoded_none word why e = sym (decoded word) ∙ ap result_ok e

@@ -79,6 +79,7 @@ fn read_request(heap: Global, words: &[&[u8]; 6], data: &[u8]) -> Result<Entry, 
     Ok(Entry { head, data })
 }
 
+#[tactic(auto, using(crate::proofs::Fields::no_words, crate::proofs::Fields::miscounted))]
 fn read_words(heap: Global, words: &[&[u8]]) -> Result<Option<Entry>, LineError>
     ensures { Tells result (reading (texts words.now)) }
 {

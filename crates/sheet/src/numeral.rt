@@ -40,6 +40,7 @@ fn appended(value: u64, byte: u8, base: Base, limit: u64) -> Option<u64>
 }
 
 // The number that `word` writes, where it is one and at most `limit`.
+#[tactic(auto, using(crate::proofs::Positions::no_word))]
 pub fn number(word: &[u8], base: Base, limit: u64) -> Option<u64>
     ensures { result ≡ number_of base limit word.now }
 {
@@ -52,6 +53,7 @@ pub fn number(word: &[u8], base: Base, limit: u64) -> Option<u64>
 }
 
 // The bytes that `word` writes by pairs of hexadecimal digits, the high half first.
+#[tactic(auto, using(crate::proofs::Positions::decoded_some, crate::proofs::Positions::decoded_none))]
 pub fn byte_pairs(heap: Global, word: &[u8]) -> Result<Option<Vec<u8>>, AllocError>
     ensures { IfOk result (λ bytes. option_map vec_items bytes ≡ bytes_of word.now) }
 {

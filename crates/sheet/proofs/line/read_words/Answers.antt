@@ -1,12 +1,9 @@
-use Rattle.std.proofs.Common.{◌≡◌, [], map, length, get_or, sym, subst, refl, ap, ◌∙◌, arith, get_or-drop, rules, tests, true-eqb}
+use Rattle.std.proofs.Common.{◌≡◌, [], map, length, get_or, sym, subst, refl, ap, ◌∙◌, arith, get_or-drop, rules, tests}
 use Rattle.std.specs.Option.{IfSome}
 use Rattle.std.proofs.lemmas.List.{get_or_past}
 use Rattle.sheet.specs.Line.{told, reading, request_of}
-use Rattle.sheet.proofs.Fields.{absent, no_words, miscounted, counted, says, some_same}
+use Rattle.sheet.proofs.Fields.{absent, counted, says, some_same}
 use Rattle.sheet.proofs.line.read_words.Goals as goal
-
-pub returns-then-is_empty : goal.returns-then-is_empty
-returns-then-is_empty c = no_words c.args.words.now (true-eqb _ 0 c.if-is_empty.ensures)
 
 pub returns-in-Some-default-empty : goal.returns-in-Some-default-empty
 returns-in-Some-default-empty c =
@@ -26,11 +23,3 @@ returns-in-Some-default-len1 c =
     let same = some_same c.read_request-in-Some-default-len1.result c.map-in-Some-default-len1.result (search (rules, tests)) in
     subst (λ o. IfSome o (λ said. said ≡ reading (map (λ x. x.now) words))) same
     (says _ ((λ i. told (request_of (map (λ x. x.now) (cut.0 i)) (last i))) ∙ counted words (get_or words 6 absent).now (omega arith) (omega arith) refl) c.read_request-in-Some-default-len1.ensures)
-
-pub returns-in_default : goal.returns-in_default
-returns-in_default c =
-    let words = c.args.words.now in
-    let not_none : length words ≡ 0 → ⊥ = search rules in
-    let not-six : length words ≡ 6 → ⊥ = search rules in
-    let not-seven : length words ≡ 7 → ⊥ = search rules in
-    miscounted words not_none not-six not-seven

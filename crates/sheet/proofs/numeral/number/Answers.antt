@@ -1,10 +1,7 @@
-use Rattle.std.proofs.Common.{sym, ◌∙◌, arith, true-eqb, false-eqb, rules, tests}
+use Rattle.std.proofs.Common.{◌∙◌, arith, false-eqb, rules, tests}
 use Rattle.std.proofs.lemmas.Iterator.{YieldsList-from_slice}
-use Rattle.sheet.proofs.Positions.{reads_folded, reads_word, no_word}
+use Rattle.sheet.proofs.Positions.{reads_folded, reads_word}
 use Rattle.sheet.proofs.numeral.number.Goals as goal
-
-pub returns-then-is_empty : goal.returns-then-is_empty
-returns-then-is_empty c = sym (no_word _ _ _ (true-eqb _ 0 c.if-is_empty.ensures))
 
 pub returns : goal.returns
 returns c =
