@@ -46,7 +46,12 @@ fn show_head(rt: &impl Print, head: RequestHead) -> io::Result<()> {
 
 fn show_verdict(rt: &impl Print, verdict: Result<Legal, Refusal>) -> io::Result<()> {
     match verdict {
-        Ok(Legal { region: Some(region), .. }) => println!(rt; "legal, in {region}"),
+        Ok(
+            Legal {
+                region: Some(region),
+                ..
+            },
+        ) => println!(rt; "legal, in {region}"),
         Ok(Legal { region: None, .. }) => println!(rt; "legal, in no region"),
         Err(refusal) => println!(rt; "refused {}: {refusal}", refusal.number()),
     }

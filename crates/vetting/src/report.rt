@@ -76,9 +76,9 @@ impl AddressMap {
     {
         let lines = lines(heap, sheet)?;
         let mut report = Report::new(heap);
-        for (i, line) in lines.iter().enumerate() {
+        for (number, line) in (1..).zip(&lines) {
             let finding = self.vet_line(heap, line)?;
-            report.note(i as u64 + 1, finding)?;
+            report.note(number, finding)?;
         }
         Ok(report)
     }
