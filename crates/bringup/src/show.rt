@@ -11,6 +11,7 @@ use vetting::address_map::{AddressMap, Region};
 use vetting::finding::{Finding, Legal};
 use vetting::report::{Row, Tally};
 
+// Functions that print, and no `Display`: the types are the library's, and how its table is laid out is this program's alone.
 pub(crate) fn show_map(rt: &impl Print, map: AddressMap) -> io::Result<()> {
     show_region(rt, Region::Ram, map.ram)?;
     show_region(rt, Region::Mailbox, map.mailbox)?;
