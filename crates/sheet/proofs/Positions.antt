@@ -5,10 +5,9 @@ use borrow.Author.Tests.{lt-leb}
 use Rattle.std.specs.Option.{option_map}
 use Rattle.sheet.specs.declared.numeral.Base.{Base}
 use Rattle.sheet.specs.declared.numeral.Base.TheVariants.{Decimal, Hexadecimal}
-use denote.Param.Members.{Mut}
 use Rattle.std.specs.declared.ops.ControlFlow.{ControlFlow}
 use Rattle.std.specs.ControlFlow.{continue_value}
-use Rattle.std.specs.Fn.{Called}
+use Rattle.std.specs.Fn.{Called, Mut}
 use Rattle.std.specs.Iterator.{AlwaysYields, TryFoldsItems, TryFoldTurn}
 use Rattle.std.specs.List.{FoldsTo}
 use Rattle.std.specs.Option.{MatchOption}

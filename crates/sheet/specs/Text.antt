@@ -1,6 +1,6 @@
 -- Bytes of text.
 use Rattle.std.specs.Prelude.{ℕ, Bool, ◌||◌, ◌==◌, List, map}
-use denote.Ref.{Bor}
+use Rattle.std.specs.Borrow.{Bor}
 
 -- the texts that are lent
 abbrev pub texts : List (Bor (List ℕ)) → List (List ℕ)
