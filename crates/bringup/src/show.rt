@@ -4,13 +4,15 @@ ghost use Rattle.bringup.specs.Show.{covered};
 use message::address_set::AddressSet;
 use message::kind::Kind;
 use message::operation::Operation;
+use message::refusal::Refusal;
 use message::request::RequestHead;
 use std::fmt::Display;
 use std::{fmt, io};
 use vetting::address_map::{AddressMap, Region};
-use vetting::finding::{Finding, Verdict};
+use vetting::finding::{Finding, Legal};
 use vetting::report::{Row, Tally};
 
+// Functions that print, and no `Display`: the types are the library's, and how its table is laid out is this program's alone.
 pub(crate) fn show_map(rt: &impl Print, map: AddressMap) -> io::Result<()> {
     show_region(rt, Region::Ram, map.ram)?;
     show_region(rt, Region::Mailbox, map.mailbox)?;
@@ -19,18 +21,10 @@ pub(crate) fn show_map(rt: &impl Print, map: AddressMap) -> io::Result<()> {
 
 fn show_region(rt: &impl Print, region: Region, set: AddressSet) -> io::Result<()> {
     println!(rt;
-        "region {:<7}  base {:08x}  mask {:08x}",
-        name(region),
+        "region {region:<7}  base {:08x}  mask {:08x}",
         set.base(),
         set.mask()
     )
-}
-
-fn name(region: Region) -> &'static str {
-    match region {
-        Region::Ram => "ram",
-        Region::Mailbox => "mailbox",
-    }
 }
 
 pub(crate) fn show_row(rt: &impl Print, row: Row) -> io::Result<()> {
@@ -52,11 +46,16 @@ fn show_head(rt: &impl Print, head: RequestHead) -> io::Result<()> {
     print!(rt; "{operation:<20}  {address:08x}  {bytes:>5}  ")
 }
 
-fn show_verdict(rt: &impl Print, verdict: Verdict) -> io::Result<()> {
+fn show_verdict(rt: &impl Print, verdict: Result<Legal, Refusal>) -> io::Result<()> {
     match verdict {
-        Verdict::Legal(_, Some(region)) => println!(rt; "legal, in {}", name(region)),
-        Verdict::Legal(_, None) => println!(rt; "legal, in no region"),
-        Verdict::Refused(refusal) => println!(rt; "refused {}: {refusal}", u8::from(refusal)),
+        Ok(
+            Legal {
+                region: Some(region),
+                ..
+            },
+        ) => println!(rt; "legal, in {region}"),
+        Ok(Legal { region: None, .. }) => println!(rt; "legal, in no region"),
+        Err(refusal) => println!(rt; "refused {}: {refusal}", u8::from(refusal)),
     }
 }
 

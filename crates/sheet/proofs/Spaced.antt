@@ -1,7 +1,7 @@
 -- Words that are typed with a space after each are the words of their line.
 use Rattle.std.proofs.Common.{◌≡◌, ℕ, cond, List, [], ◌∷◌, ◌++◌, filter, refl, ap, ◌∙◌, arith}
-use Rattle.std.specs.List.{AllByRecursion as All}
-use Rattle.sheet.specs.Stretch.{blank, comment, joined_on}
+use Rattle.std.specs.List.{onto_first, AllByRecursion as All}
+use Rattle.sheet.specs.Text.{blank, comment}
 use Rattle.sheet.specs.Words.{said, pieces, some, runs, words_of, Plain, Typed, spaced}
 
 said_word : (w rest : List ℕ) → All Plain w → said (w ++ rest) ≡ w ++ said rest
@@ -17,8 +17,8 @@ first_piece : (w rest : List ℕ) → All Plain w → pieces (w ++ (32 ∷ rest)
 unfolding blank
 first_piece [] rest h = refl
 first_piece (b ∷ w) rest h =
-    ap (λ t. cond t ([] ∷ pieces (w ++ (32 ∷ rest))) (joined_on b (pieces (w ++ (32 ∷ rest))))) h.0.0
-    ∙ ap (joined_on b) (first_piece w rest h.1)
+    ap (λ t. cond t ([] ∷ pieces (w ++ (32 ∷ rest))) (onto_first b (pieces (w ++ (32 ∷ rest))))) h.0.0
+    ∙ ap (onto_first b) (first_piece w rest h.1)
 
 first_word : (w rest : List ℕ) → Typed w → runs (w ++ (32 ∷ rest)) ≡ w ∷ runs rest
 unfolding runs

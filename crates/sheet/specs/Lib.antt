@@ -1,4 +1,4 @@
-pub mod Stretch
+pub mod Text
 pub mod Lines
 pub mod Words
 pub mod Numeral

@@ -1,13 +1,15 @@
 -- What a line of a sheet says.
-use Rattle.std.specs.Prelude.{ℕ, ◌-◌, ◌^◌, cond, ◌||◌, List, [], length, Some, None, Ok, Err, vec_items, Option, Result, ◌==◌, slice_index_or}
+use Rattle.std.specs.Prelude.{◌≡◌, ℕ, ◌-◌, ◌^◌, cond, ◌||◌, List, [], length, Some, None, Ok, Err, vec_items, Option, Result, ◌==◌, slice_index_or, IfSome, MatchOption}
 use Rattle.message.specs.declared.request.RequestHead.{RequestHead}
 use Rattle.message.specs.Request.{Request}
 use Rattle.sheet.specs.declared.fault.Field.{Field}
 use Rattle.sheet.specs.declared.fault.Field.TheVariants as field
 use Rattle.sheet.specs.declared.fault.Fault.{Fault}
 use Rattle.sheet.specs.declared.fault.Fault.TheVariants as fault
-use Rattle.sheet.specs.declared.line.Line.{Line}
-use Rattle.sheet.specs.declared.line.Line.TheVariants as line
+use Rattle.sheet.specs.declared.line.Entry.{Entry}
+use Rattle.sheet.specs.declared.line.LineError.{LineError}
+use Rattle.sheet.specs.declared.line.LineError.TheVariants as error
+use Rattle.sheet.specs.declared.numeral.Base.{Base}
 use Rattle.sheet.specs.declared.numeral.Base.TheVariants.{Decimal, Hexadecimal}
 use Rattle.sheet.specs.Numeral.{number_of, bytes_of}
 use Rattle.sheet.specs.Words.{words_of}
@@ -28,6 +30,16 @@ address_of word = number_of Hexadecimal (2 ^ 32 - 1) word
 -- hexadecimal, below 2 ^ 64
 abbrev pub mask_of : List ℕ → Option ℕ
 mask_of word = number_of Hexadecimal (2 ^ 64 - 1) word
+
+-- a value, or the field at fault in place of another error
+abbrev pub blaming : {A E : Type 0} → Field → Result A E → Result A Field
+blaming f (Ok a) = Ok a
+blaming f (Err e) = Err f
+
+-- the number that a word writes, converted to the field's type, or else the field at fault
+abbrev pub ReadsField : {A E : Type 0} → (ℕ → Result A E → Type 0) → Base → List ℕ → Field → Result A Field → Type 0
+ReadsField converts base word f r =
+    MatchOption (number_of base (2 ^ 64 - 1) word) (r ≡ Err f) (λ n. (t : _) × converts n t × (r ≡ blaming f t))
 
 -- the word at a place, which is empty past the last
 abbrev pub word : List (List ℕ) → ℕ → List ℕ
@@ -79,8 +91,22 @@ reading words =
 abbrev pub line_of : List ℕ → Reading
 line_of line = reading (words_of line)
 
+-- what an answer without a request says; where memory ran out, nothing
+abbrev pub view_error : LineError → Option Reading
+view_error (error.Fault why) = Some (unreadable why)
+view_error (error.Memory why) = None
+
+-- what an answer with a request says
+abbrev pub view_entry : Result Entry LineError → Option Reading
+view_entry (Ok entry) = Some (request (record { head = entry.head; bytes = vec_items entry.«data» }))
+view_entry (Err why) = view_error why
+
 -- what the answer to a line says
-abbrev pub view : Line → Reading
-view line.Nothing = nothing
-view (line.Request entry) = request (record { head = entry.head; bytes = vec_items entry.«data» })
-view (line.Unreadable why) = unreadable why
+abbrev pub view : Result (Option Entry) LineError → Option Reading
+view (Ok None) = Some nothing
+view (Ok (Some entry)) = view_entry (Ok entry)
+view (Err why) = view_error why
+
+-- an answer says this of its line; one for want of memory says nothing of it
+abbrev pub Tells : Result (Option Entry) LineError → Reading → Type 0
+Tells answer what = IfSome (view answer) (λ said. said ≡ what)

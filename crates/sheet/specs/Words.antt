@@ -1,7 +1,7 @@
 -- The words of a line.
 use Rattle.std.specs.Prelude.{◌≡◌, ℕ, ◌<◌, Bool, true, false, cond, List, [], ◌∷◌, ◌++◌, length, filter}
-use Rattle.std.specs.List.{AllByRecursion}
-use Rattle.sheet.specs.Stretch.{blank, comment, joined_on}
+use Rattle.std.specs.List.{AllByRecursion, slice_split}
+use Rattle.sheet.specs.Text.{blank, comment}
 
 -- a line without its comment
 abbrev pub said : List ℕ → List ℕ
@@ -10,8 +10,7 @@ said (b ∷ bs) = cond (comment b) [] (b ∷ said bs)
 
 -- a text cut at each blank: the pieces between them, of which some may be empty
 abbrev pub pieces : List ℕ → List (List ℕ)
-pieces [] = [] ∷ []
-pieces (b ∷ bs) = cond (blank b) ([] ∷ pieces bs) (joined_on b (pieces bs))
+pieces text = slice_split blank text
 
 -- a piece that has a byte
 abbrev pub some : List ℕ → Bool

@@ -5,5 +5,4 @@ pub mod fault;
 pub mod line;
 pub mod lines;
 pub mod numeral;
-mod stretch;
 pub mod words;

@@ -8,17 +8,16 @@ use Rattle.vetting.specs.declared.address_map.AddressMap.{AddressMap}
 use Rattle.vetting.specs.declared.address_map.Region.{Region}
 use Rattle.vetting.specs.declared.finding.Finding.{Finding}
 use Rattle.vetting.specs.declared.finding.Finding.TheVariants as finding
-use Rattle.vetting.specs.declared.finding.Verdict.{Verdict}
-use Rattle.vetting.specs.declared.finding.Verdict.TheVariants.{Legal, Refused}
+use Rattle.vetting.specs.declared.finding.Legal.{Legal}
 use Rattle.vetting.specs.AddressMap.{region_of}
 
 -- an answer of `check` as a verdict
-abbrev pub judgement : Option Region → Result Operation Refusal → Verdict
-judgement place (Ok o) = Legal o place
-judgement place (Err e) = Refused e
+abbrev pub judgement : Option Region → Result Operation Refusal → Result Legal Refusal
+judgement place (Ok o) = Ok (record { operation = o; region = place })
+judgement place (Err e) = Err e
 
 -- a request is refused, or has an operation and a region
-abbrev pub verdict_of : AddressMap → Request → Verdict
+abbrev pub verdict_of : AddressMap → Request → Result Legal Refusal
 verdict_of m q = judgement (region_of m q.head) (checked q)
 
 -- what there is to say of a line, by what the line says

@@ -1,3 +1,4 @@
 pub mod AddressMap
 pub mod Finding
 pub mod Report
+pub mod Region

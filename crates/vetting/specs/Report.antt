@@ -1,11 +1,10 @@
 -- What is reported of a sheet, and how it is counted.
-use Rattle.std.specs.Prelude.{◌≡◌, ℕ, ◌+◌, ◌-◌, ◌^◌, min, List, [], ◌∷◌, ◌++◌, Some, None, vec_items, fold, Option}
+use Rattle.std.specs.Prelude.{◌≡◌, ℕ, ◌+◌, ◌-◌, ◌^◌, min, List, [], ◌∷◌, ◌++◌, Some, None, Ok, Err, vec_items, fold, Option}
 use Rattle.sheet.specs.Line.{line_of}
 use Rattle.sheet.specs.Lines.{lines_of}
 use Rattle.vetting.specs.declared.address_map.AddressMap.{AddressMap}
 use Rattle.vetting.specs.declared.finding.Finding.{Finding}
 use Rattle.vetting.specs.declared.finding.Finding.TheVariants as finding
-use Rattle.vetting.specs.declared.finding.Verdict.TheVariants.{Legal, Refused}
 use Rattle.vetting.specs.declared.report.Report.{Report}
 use Rattle.vetting.specs.declared.report.Row.{Row}
 use Rattle.vetting.specs.declared.report.Tally.{Tally}
@@ -21,9 +20,9 @@ empty = record { legal = 0; refused = 0; unreadable = 0 }
 
 -- a finding counts once
 abbrev pub counted : Tally → Finding → Tally
-counted t (finding.Request q (Legal o place)) =
+counted t (finding.Request q (Ok legal)) =
     record { legal = one_more t.legal; refused = t.refused; unreadable = t.unreadable }
-counted t (finding.Request q (Refused e)) =
+counted t (finding.Request q (Err e)) =
     record { legal = t.legal; refused = one_more t.refused; unreadable = t.unreadable }
 counted t (finding.Unreadable why) =
     record { legal = t.legal; refused = t.refused; unreadable = one_more t.unreadable }

@@ -1,14 +1,30 @@
-ghost use Rattle.std.specs.Prelude.{◌≡◌, Ok, Err};
+ghost use Rattle.std.specs.Prelude.{◌≡◌, Some, Ok, Err};
+ghost use Rattle.std.specs.Fmt.{padded};
 ghost use Rattle.vetting.specs.AddressMap.{region_of};
+ghost use Rattle.vetting.specs.Region.{name_of};
 
 use message::address_set::AddressSet;
 use message::refusal::Refusal;
 use message::request::RequestHead;
+use std::fmt;
 
 #[derive(Clone, Copy)]
 pub enum Region {
     Ram,
     Mailbox,
+}
+
+impl fmt::Display for Region {
+    ghost output = { λ region. Some (name_of region) };
+
+    ghost styled_output = { λ region spec. Some (padded spec (name_of region)) };
+
+    fn fmt<W: fmt::Write>(&self, f: &mut fmt::Formatter<W>) -> fmt::Result {
+        f.pad(match self {
+            Region::Ram => "ram",
+            Region::Mailbox => "mailbox",
+        })
+    }
 }
 
 // The bench's two regions.

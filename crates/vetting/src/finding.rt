@@ -8,44 +8,44 @@ use message::operation::Operation;
 use message::refusal::Refusal;
 use message::request::RequestHead;
 use sheet::fault::Fault;
-use sheet::line::{Line, read_line};
+use sheet::line::{LineError, read_line};
 use std::alloc::{AllocError, Global};
 
 // A legal request lies in a region, or in none.
 #[derive(Clone, Copy)]
-pub enum Verdict {
-    Legal(Operation, Option<Region>),
-    Refused(Refusal),
+pub struct Legal {
+    pub operation: Operation,
+    pub region: Option<Region>,
 }
 
-// What there is to say of a line.
+// What there is to say of a line. No `Result`: both are rows of a report, and a fault is no failure to pass on.
 #[derive(Clone, Copy)]
 pub enum Finding {
-    Request(RequestHead, Verdict),
+    Request(RequestHead, Result<Legal, Refusal>),
     Unreadable(Fault),
 }
 
 impl AddressMap {
-    pub fn vet(self, head: RequestHead, data: &[u8]) -> Verdict
+    pub fn vet(self, head: RequestHead, data: &[u8]) -> Result<Legal, Refusal>
         ensures { result ≡ verdict_of self (request head «data».now) }
     {
-        match head.check(data) {
-            Ok(operation) => Verdict::Legal(operation, self.region(head)),
-            Err(refusal) => Verdict::Refused(refusal),
-        }
+        let operation = head.check(data)?;
+        let region = self.region(head);
+        Ok(Legal { operation, region })
     }
 
     // What there is to say of a line of a sheet, if anything.
     pub fn vet_line(self, heap: Global, line: &[u8]) -> Result<Option<Finding>, AllocError>
         ensures { IfOk result (λ finding. finding ≡ finding_of self (line_of line.now)) }
     {
-        match read_line(heap, line)? {
-            Line::Nothing => Ok(None),
-            Line::Request(entry) => {
+        match read_line(heap, line) {
+            Ok(None) => Ok(None),
+            Ok(Some(entry)) => {
                 let verdict = self.vet(entry.head, &entry.data);
                 Ok(Some(Finding::Request(entry.head, verdict)))
             }
-            Line::Unreadable(fault) => Ok(Some(Finding::Unreadable(fault))),
+            Err(LineError::Fault(fault)) => Ok(Some(Finding::Unreadable(fault))),
+            Err(LineError::Memory(memory)) => Err(memory),
         }
     }
 }

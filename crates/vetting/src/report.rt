@@ -2,12 +2,12 @@ ghost use Rattle.std.specs.Prelude.{◌≡◌, [], ◌++◌, IfOk, fold, OnOk};
 ghost use Rattle.vetting.specs.Report.{empty, counted, by_row, row_of, Reports};
 
 use crate::address_map::AddressMap;
-use crate::finding::{Finding, Verdict};
+use crate::finding::Finding;
 use sheet::lines::lines;
 use std::alloc::{AllocError, Global};
 
 // How many lines came to what.
-#[derive(Clone, Copy)]
+#[derive(Clone, Copy, Default)]
 pub struct Tally {
     pub legal: u64,
     pub refused: u64,
@@ -31,21 +31,15 @@ impl Tally {
     pub fn new() -> Tally
         ensures { result ≡ empty }
     {
-        Tally {
-            legal: 0,
-            refused: 0,
-            unreadable: 0,
-        }
+        Tally::default()
     }
 
     pub fn count(&mut self, finding: Finding)
         ensures { self.new ≡ counted self.old finding }
     {
         match finding {
-            Finding::Request(_, Verdict::Legal(_, _)) => self.legal = self.legal.saturating_add(1),
-            Finding::Request(_, Verdict::Refused(_)) => self.refused = self
-                .refused
-                .saturating_add(1),
+            Finding::Request(_, Ok(_)) => self.legal = self.legal.saturating_add(1),
+            Finding::Request(_, Err(_)) => self.refused = self.refused.saturating_add(1),
             Finding::Unreadable(_) => self.unreadable = self.unreadable.saturating_add(1),
         }
     }
@@ -82,9 +76,9 @@ impl AddressMap {
     {
         let lines = lines(heap, sheet)?;
         let mut report = Report::new(heap);
-        for (i, line) in lines.iter().enumerate() {
+        for (number, line) in (1..).zip(&lines) {
             let finding = self.vet_line(heap, line)?;
-            report.note(i as u64 + 1, finding)?;
+            report.note(number, finding)?;
         }
         Ok(report)
     }

@@ -1,17 +1,20 @@
-use Rattle.std.proofs.Common.{vec_items, sym, refl, ap, ◌∙◌}
+use Rattle.std.proofs.Common.{◌≡◌, Err, vec_items, sym, refl, ap, ◌∙◌, rules, tests}
 use Rattle.std.specs.Option.{option_map}
-use Rattle.sheet.specs.Line.{told, view}
-use Rattle.sheet.proofs.Fields.{request_is}
+use Rattle.sheet.specs.declared.fault.Field.TheVariants as field
+use Rattle.sheet.specs.Line.{told}
+use Rattle.sheet.proofs.Fields.{blames, request_is}
 use Rattle.sheet.proofs.line.read_request.Goals as goal
-use Rattle.sheet.proofs.line.read_request.Goals.{in-Some, in-None}
 
-pub returns-in-Err : goal.returns-in-Err
-returns-in-Err c = ap told (request_is _ c.args.data.now c.in-Err.ensures refl)
+pub returns-in_err-head : goal.returns-in_err-head
+returns-in_err-head c =
+    blames c.from_residual.result _ _ c.from_residual.ensures.1 (request_is _ c.args.data.now c.in_err-head.ensures refl)
+
+pub returns-in_err-data : goal.returns-in_err-data
+returns-in_err-data c =
+    let missing = sym (ap (option_map vec_items) c.in_err-data.ensures.ok_part) ∙ c.in_ok-byte_pairs.ensures in
+    let named : c.in_err-data.field-0.0 ≡ field.Data = search (rules, tests) in
+    blames c.from_residual-in_err-data.result _ _ c.from_residual-in_err-data.ensures.1 (ap Err named ∙ request_is _ c.args.data.now c.in_ok-head.ensures missing)
 
 pub returns : goal.returns
 returns c =
-    let read = c.in_ok-data.ensures in
-    elim c.match-branch-2.branch [
-      | in-Some w ↦ ap view w.result-is ∙ ap told (request_is _ _ c.in-Ok.ensures (sym (ap (option_map vec_items) w.in-Some.is) ∙ read))
-      | in-None w ↦ ap view w.result-is ∙ ap told (request_is _ _ c.in-Ok.ensures (sym (ap (option_map vec_items) w.in-None.is) ∙ read))
-    ]
+    ap told (request_is _ c.args.data.now c.in_ok-head.ensures (sym (ap (option_map vec_items) c.in_ok-data.ensures.ok_part) ∙ c.in_ok-byte_pairs.ensures))
