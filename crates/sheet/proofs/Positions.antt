@@ -1,5 +1,5 @@
 -- Numerals read from the left, and bytes read by pairs.
-use Rattle.std.proofs.Common.{◌≡◌, ℕ, suc, ◌+◌, ◌*◌, ◌^◌, ◌<◌, ◌≤◌, Bool, true, false, leb, List, [], ◌∷◌, ◌++◌, length, Some, None, Option, sym, refl, ap, ◌∙◌, mul_assoc, add-mul, mul-one, le-mul_of_pos_right, arith, map, subst, Result, Ok, Err, ◌%◌, ◌==◌, true-eqb, Bor, le-leb, leb-false, leb-true}
+use Rattle.std.proofs.Common.{◌≡◌, ℕ, suc, ◌+◌, ◌*◌, ◌/◌, ◌^◌, ◌<◌, ◌≤◌, Bool, true, false, leb, List, [], ◌∷◌, ◌++◌, length, Some, None, Option, sym, refl, ap, ◌∙◌, mul_assoc, add-mul, mul-one, le-mul_of_pos_right, arith, map, subst, Result, Ok, Err, ◌%◌, ◌==◌, true-eqb, eq-eqb, Bor, le-leb, leb-false, leb-true}
 use native.Mathlib.Nat.{pow-zero, pow-succ', one-le-pow}
 use borrow.Author.Tests.{lt-leb}
 use Rattle.std.specs.Option.{option_map}
@@ -11,12 +11,12 @@ use Rattle.std.specs.Fn.{Called, Mut}
 use Rattle.std.specs.Iterator.{AlwaysYields, TryFoldsItems, TryFoldTurn}
 use Rattle.std.specs.List.{FoldsTo}
 use Rattle.std.specs.Option.{MatchOption}
-use Rattle.std.specs.Result.{result_ok}
+use Rattle.std.specs.Result.{result_ok, MatchResult}
 use Rattle.std.proofs.iter.Yields.{gives_left}
 use Rattle.std.proofs.lemmas.Bool.Decides.{nat_tests}
 use Rattle.std.proofs.lemmas.Iterator.{YieldsList}
 use Rattle.hex.specs.declared.error.FromHexError.{FromHexError}
-use Rattle.hex.specs.Hex.{decode_of, decode_pairs, hex_digit_value, pair_value, value_at, ◌>>=◌}
+use Rattle.hex.specs.Hex.{decode_sized, decode_pairs, hex_digit_value, pair_value, value_at, ◌>>=◌}
 use Rattle.sheet.specs.Numeral.{and_then, radix, digit_of, digits_of, value, at_most, appended_of, number_of, paired, bytes_of}
 
 -- the number so far, and then the digits of bs
@@ -177,15 +177,18 @@ odd_none i (a ∷ b ∷ word) h = none (pair_value a b i) (decode_pairs (i + 2) 
     none (Ok byte) (Err d) e = refl
     none (Ok byte) (Ok bytes) e = absurd (let z : ◌≡◌ {A = ℕ} 0 1 = cc in omega arith)
 
-decoded : (word : List ℕ) → result_ok (decode_of word) ≡ bytes_of word
+decoded : (word : List ℕ) → result_ok (decode_sized word (length word / 2)) ≡ bytes_of word
 decoded word = by (length word % 2 == 1) refl
   where
-    by : (t : Bool) → (length word % 2 == 1) ≡ t → result_ok (decode_of word) ≡ bytes_of word
+    by : (t : Bool) → (length word % 2 == 1) ≡ t → result_ok (decode_sized word (length word / 2)) ≡ bytes_of word
     by true e = rw e (sym (odd_none 0 word (true-eqb (length word % 2) 1 (sym e))) ∙ pairs_same 0 word)
-    by false e = rw e (pairs_same 0 word)
+    by false e = rw (e, eq-eqb (length word / 2) (length word / 2) refl) (pairs_same 0 word)
 
-pub decoded_some : (word bytes : List ℕ) → decode_of word ≡ Ok bytes → bytes_of word ≡ Some bytes
-decoded_some word bytes e = sym (decoded word) ∙ ap result_ok e
+-- what a decoder into half as many bytes as there are digits tells
+pub decoded_some : (word bytes : List ℕ) (n : ℕ) (d : Result (List ℕ) FromHexError) → n ≡ length word / 2 → decode_sized word n ≡ d → MatchResult d (λ bs. ◌≡◌ {A = Result (Unit {0}) FromHexError} (Ok tt) (Ok tt) × (bytes ≡ bs)) (λ e. ◌≡◌ {A = Result (Unit {0}) FromHexError} (Ok tt) (Err e)) → Some bytes ≡ bytes_of word
+decoded_some word bytes n (Ok bs) is e m = ap Some m.1 ∙ ap result_ok (sym e) ∙ ap (λ k. result_ok (decode_sized word k)) is ∙ decoded word
+decoded_some word bytes n (Err why) is e m = absurd (let z : ◌≡◌ {A = ℕ} 0 1 = cc in omega arith)
 
-pub decoded_none : (word : List ℕ) (why : FromHexError) → decode_of word ≡ Err why → bytes_of word ≡ None
-decoded_none word why e = sym (decoded word) ∙ ap result_ok e
+pub decoded_none : (word bytes : List ℕ) (n : ℕ) (why : FromHexError) (d : Result (List ℕ) FromHexError) → n ≡ length word / 2 → decode_sized word n ≡ d → MatchResult d (λ bs. ◌≡◌ {A = Result (Unit {0}) FromHexError} (Err why) (Ok tt) × (bytes ≡ bs)) (λ e. ◌≡◌ {A = Result (Unit {0}) FromHexError} (Err why) (Err e)) → None ≡ bytes_of word
+decoded_none word bytes n why (Err e) is h m = ap result_ok (sym h) ∙ ap (λ k. result_ok (decode_sized word k)) is ∙ decoded word
+decoded_none word bytes n why (Ok bs) is h m = absurd (let never = m.0 in let z : ◌≡◌ {A = ℕ} 0 1 = cc in omega arith)

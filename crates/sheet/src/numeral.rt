@@ -2,7 +2,6 @@ ghost use Rattle.std.specs.Prelude.{◌≡◌, IfOk, vec_items};
 ghost use Rattle.std.specs.Option.{option_map};
 ghost use Rattle.sheet.specs.Numeral.{radix, digit_of, appended_of, number_of, bytes_of};
 
-use hex::FromHexError;
 use std::alloc::{AllocError, Global};
 
 #[derive(Clone, Copy)]
@@ -53,13 +52,12 @@ pub fn number(word: &[u8], base: Base, limit: u64) -> Option<u64>
 }
 
 // The bytes that `word` writes by pairs of hexadecimal digits, the high half first.
-#[tactic(auto, using(crate::proofs::Positions::decoded_some, crate::proofs::Positions::decoded_none))]
 pub fn byte_pairs(heap: Global, word: &[u8]) -> Result<Option<Vec<u8>>, AllocError>
     ensures { IfOk result (λ bytes. option_map vec_items bytes ≡ bytes_of word.now) }
 {
-    match hex::decode(heap, word) {
-        Ok(bytes) => Ok(Some(bytes)),
-        Err(FromHexError::OutOfMemory) => Err(AllocError),
+    let mut bytes = vec![in heap; 0; word.len() / 2]?;
+    match hex::decode_to_slice(word, &mut bytes) {
+        Ok(()) => Ok(Some(bytes)),
         Err(_) => Ok(None),
     }
 }
