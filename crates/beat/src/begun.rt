@@ -1,7 +1,8 @@
 ghost use Rattle.std.specs.Prelude.{◌≡◌};
 ghost use Rattle.beat.specs.Begun.{IsWhole};
 
-// A message that is being read: whole, or with beats still due.
+// A message that is being read: whole, or with beats still due. No `Result`: neither is an error, and `?` would hand on
+// a half-sent burst as if it were one.
 pub enum Begun<H, B> {
     Whole(H),
     Half(B),

@@ -5,7 +5,7 @@ ghost use Rattle.beat.specs.Channel.{part, heard, carries, Due, Stands, buffer_w
 use crate::begun::Begun;
 use crate::channel::Channel;
 use crate::judge::judge;
-use crate::lanes::{Lanes, beat_count};
+use crate::lanes::Lanes;
 use crate::width::Width;
 use message::kind::Kind;
 use message::refusal::Refusal;
@@ -73,7 +73,7 @@ impl<C: Channel> Burst<C> {
         let mask = lanes.joined(C::mask(head), C::lane_mask(beat), come * lanes.count);
         let head = C::with_mask(head, mask);
         let come = come + 1;
-        if come == beat_count(true, width, header.size) {
+        if come == lanes.beats(true) {
             Begun::Whole(head)
         } else {
             Begun::Half(Burst { head, width, come })

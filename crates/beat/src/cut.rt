@@ -3,12 +3,13 @@ ghost use Rattle.beat.specs.Lanes.{beat_bytes, in_lanes};
 ghost use Rattle.beat.specs.Channel.{cut_message, LaidOut};
 
 use crate::channel::Channel;
-use crate::lanes::{Lanes, beat_count};
+use crate::lanes::Lanes;
 use crate::width::Width;
 use message::kind::Kind;
 use message::refusal::Refusal;
 
-// Beat `index` of a message, if it has so many. The data of a denied response go as zeros.
+// Beat `index` of a message, if it has so many. The data of a denied response go as zeros. The width is a number, here
+// and where reading begins: any is answered, and one that is no width is refused.
 pub fn cut<C: Channel>(
     head: C::Head,
     data: &[u8],
@@ -21,10 +22,10 @@ pub fn cut<C: Channel>(
     let width = Width::try_from(width)?;
     let kind = C::check(head, data)?;
     let header = C::header(head);
-    if index >= beat_count(kind.has_data(), width, header.size) {
+    let lanes = Lanes::of(width, header.size, header.address);
+    if index >= lanes.beats(kind.has_data()) {
         return Ok(None);
     }
-    let lanes = Lanes::of(width, header.size, header.address);
     let mask = lanes.mask(C::mask(head), index * lanes.count);
     let bytes = sent(lanes, header.denied, data, index);
     Ok(Some(C::beat(kind, head, mask, bytes)))

@@ -1,5 +1,5 @@
-ghost use Rattle.std.specs.Prelude.{◌≡◌, ◌≤◌, ◌%◌, ◌^◌};
-ghost use Rattle.beat.specs.Channel.{same_head, admitted, judged};
+ghost use Rattle.std.specs.Prelude.{◌≡◌};
+ghost use Rattle.beat.specs.Channel.{same_head, judged};
 
 use crate::channel::Channel;
 use crate::header::Header;
@@ -19,22 +19,7 @@ pub(crate) fn judge<C: Channel>(
     ensures { result ≡ judged C.Kind.kinds C.beats first width beat room }
 {
     let header = C::header(C::start(beat));
-    let kind = place(header.opcode, header.param, header.size, header.address)?;
-    admit::<C>(kind, first, width, beat, room)
-}
-
-fn admit<C: Channel>(
-    kind: C::Kind,
-    first: Option<C::Head>,
-    width: Width,
-    beat: C::Beat,
-    room: usize,
-) -> Result<C::Kind, Refusal>
-    requires size { (C.beats.header (C.beats.start beat)).size ≤ 6 }
-    requires aligned { (C.beats.header (C.beats.start beat)).address % 2 ^ (C.beats.header (C.beats.start beat)).size ≡ 0 }
-    ensures { result ≡ admitted C.Kind.kinds C.beats kind first width beat room }
-{
-    let header = C::header(C::start(beat));
+    let kind: C::Kind = place(header.opcode, header.param, header.size, header.address)?;
     if !follows::<C>(first, header) {
         return Err(Refusal::HeadDiffers);
     }

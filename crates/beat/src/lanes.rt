@@ -1,14 +1,15 @@
-ghost use Rattle.std.specs.Prelude.{◌≡◌, ◌+◌, ◌-◌, ◌*◌, ◌/◌, ◌%◌, ◌^◌, ◌<◌, ◌≤◌, length, ◌≢◌, nat_eq};
+ghost use Rattle.std.specs.Prelude.{◌≡◌, ◌+◌, ◌-◌, ◌*◌, ◌/◌, ◌%◌, ◌^◌, ◌<◌, ◌≤◌, length, ◌≢◌, nat_eq, true, cond};
 ghost use Rattle.beat.specs.Width.{width_bytes};
 ghost use Rattle.beat.specs.Lanes.{per_beat, first_lane, beat_count, beat_bytes, in_lanes, lane_bytes, active_lanes, put};
 
 use crate::width::Width;
 
-// The active lanes of a message's beats: `count` of them, from `first` on.
+// How a message lies on the bus: its beats' active lanes, `count` of them from `first` on, and how many beats its data make.
 #[derive(Clone, Copy)]
 pub struct Lanes {
     pub(crate) first: usize,
     pub(crate) count: usize,
+    beats: usize,
     ghost some: { 0 < count },
     ghost fits: { first + count ≤ 8 },
 }
@@ -19,12 +20,21 @@ impl Lanes {
         requires aligned { address % 2 ^ size ≡ 0 }
         ensures first { result.first ≡ first_lane (width_bytes width) address }
         ensures count { result.count ≡ per_beat (width_bytes width) size }
+        ensures beats { result.beats ≡ beat_count true (width_bytes width) size }
     {
         let bytes = u8::from(width) as usize;
         Lanes {
             first: address as usize % bytes,
             count: bytes.min(1 << size),
+            beats: ((1 << size) / bytes).max(1),
         }
+    }
+
+    // How many beats the message has: without data, one.
+    pub(crate) fn beats(self, has_data: bool) -> usize
+        ensures { result ≡ cond has_data self.beats 1 }
+    {
+        if has_data { self.beats } else { 1 }
     }
 
     // The bytes in the active lanes, and 0 in the others.
@@ -103,18 +113,6 @@ impl Lanes {
         ensures { result ≡ nat_eq (lane_mask / 2 ^ self.first % 2 ^ self.count * 2 ^ self.first) lane_mask }
     {
         self.mask((lane_mask >> self.first) as u64, 0) == lane_mask
-    }
-}
-
-// How many beats a message has.
-pub(crate) fn beat_count(has_data: bool, width: Width, size: u8) -> usize
-    requires { size ≤ 6 }
-    ensures { result ≡ beat_count has_data (width_bytes width) size }
-{
-    if has_data {
-        ((1 << size) / u8::from(width) as usize).max(1)
-    } else {
-        1
     }
 }
 

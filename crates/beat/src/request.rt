@@ -10,7 +10,8 @@ use message::operation::Operation;
 use message::refusal::Refusal;
 use message::request::RequestHead;
 
-// A beat of a request: lane i in bit i of the mask, and in bits 8i to 8i + 7 of the lanes.
+// A beat of a request: lane i in bit i of the mask, and in bits 8i to 8i + 7 of the lanes. Opcode and param are numbers,
+// as on the bus: a beat may have any, and a wrong one is refused.
 #[derive(Clone, Copy)]
 pub struct RequestBeat {
     pub opcode: u8,

@@ -9,7 +9,8 @@ use message::kind::Kind;
 use message::refusal::Refusal;
 use message::response::{Denial, ResponseHead, ResponseOpcode};
 
-// A beat of a response: lane i in bits 8i to 8i + 7 of the lanes.
+// A beat of a response: lane i in bits 8i to 8i + 7 of the lanes. Numbers and flags are as on the bus: a beat may have
+// any, and wrong ones are refused; the denial goes beside it.
 #[derive(Clone, Copy)]
 pub struct ResponseBeat {
     pub opcode: u8,

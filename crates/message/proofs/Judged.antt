@@ -1,5 +1,5 @@
 -- A request is legal exactly where no judgement refuses it.
-use Rattle.std.proofs.Common.{◌≡◌, ℕ, ◌-◌, ◌^◌, ◌<◌, ◌≤◌, Bool, true, false, cond, ◌||◌, eqb, ltb, leb, ◌⊎◌, length, Ok, Result, sym, refl, ap, ◌∙◌, subst, inl, inr, ⊎_elim, arith, pow_pos}
+use Rattle.std.proofs.Common.{◌≡◌, ℕ, ◌-◌, ◌^◌, ◌<◌, ◌≤◌, min, Bool, true, false, cond, ◌||◌, eqb, ltb, leb, ◌⊎◌, length, Ok, Result, sym, refl, ap, ◌∙◌, subst, inl, inr, ⊎_elim, arith, pow_pos}
 use Rattle.std.proofs.lemmas.Bool.{eqb-true, ltb-true, eq-eqb, lt-ltb, le-leb, or_cases, or_left, or_right, cond-true, cond-false}
 use Rattle.message.specs.declared.refusal.Refusal.{Refusal}
 use Rattle.message.specs.declared.refusal.Refusal.TheVariants as no
@@ -24,6 +24,9 @@ size_from false size le h = le-leb size 6 le
 -- an accepted place has a legal size
 pub placed_size : (opcode param size address : ℕ) (o : Operation) → Ok o ≡ placed operation_kinds opcode param size address → size ≤ 6
 placed_size opcode param size address o h = size_small o size (placed_parts operation_kinds opcode param size address o (sym h)).fits
+
+pub placed_min : (opcode param size address : ℕ) (o : Operation) → Ok o ≡ placed operation_kinds opcode param size address → min size 6 ≡ size
+placed_min opcode param size address o h = let le = placed_size opcode param size address o h in omega arith
 
 -- masks, with n for the number of bytes
 mask_below : (t : Bool) (n mask : ℕ) → cond t (ltb mask (2 ^ n)) (eqb mask (2 ^ n - 1)) ≡ true → mask < 2 ^ n

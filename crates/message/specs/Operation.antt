@@ -1,5 +1,5 @@
 -- The table of operations.
-use Rattle.std.specs.Prelude.{ℕ, Bool, true, false, List, [], ◌∷◌, Some, None, Ok, Err, Result}
+use Rattle.std.specs.Prelude.{ℕ, Bool, true, false, List, [], ◌∷◌, Some, None, Err, Result}
 use Rattle.std.specs.Option.{ok_or}
 use Rattle.std.specs.List.{slice_get}
 use Rattle.message.specs.declared.refusal.Refusal.{Refusal}
@@ -34,7 +34,3 @@ has_data (ArithmeticData a) = true
 has_data (LogicalData l) = true
 has_data Get = false
 has_data (Intent p) = false
-
--- whether opcode and param are those of an operation whose requests carry data
-abbrev pub carries_data : ℕ → ℕ → Bool
-carries_data opcode param = elim (operation_of opcode param) [ Ok o ↦ has_data o | Err e ↦ false ]

@@ -53,11 +53,6 @@ abbrev pub response_of : ℕ → ℕ → Result ResponseOpcode Refusal
 response_of opcode param =
     unless_refused (ok_or (slice_get responses opcode) no.Opcode) (λ k. cond (param == 0) (Ok k) (Err no.Param))
 
--- whether opcode and param are those of a response that carries data
-abbrev pub response_carries_data : ℕ → ℕ → Bool
-response_carries_data opcode param =
-    elim (response_of opcode param) [ Ok k ↦ response_has_data k | Err e ↦ false ]
-
 -- a response has any of the seven sizes
 abbrev pub response_fits : ResponseOpcode → ℕ → Bool
 response_fits k size = nat_le size 6

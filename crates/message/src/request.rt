@@ -48,8 +48,7 @@ pub fn whole_mask(size: u8) -> u64
 }
 
 fn mask_fits(operation: Operation, size: u8, mask: u64) -> bool
-    requires { size ≤ 6 }
-    ensures { result ≡ mask_fits operation size mask }
+    ensures { result ≡ mask_fits operation (min size 6) mask }
 {
     match operation {
         Operation::PutPartialData => mask <= whole_mask(size),

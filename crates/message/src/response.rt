@@ -48,7 +48,8 @@ impl Kind for ResponseOpcode {
     }
 }
 
-// Why a request was denied, at which address, and by which agent: all 0 where it was not.
+// Why a request was denied, at which address, and by which agent: all 0 where it was not. Causes are numbers that each
+// agent gives a meaning of its own.
 #[derive(Clone, Copy)]
 pub struct Denial {
     pub cause: u8,
