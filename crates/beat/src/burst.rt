@@ -62,6 +62,7 @@ impl<C: Channel> Burst<C> {
         ensures answer { Went C.Kind.kinds C.beats self beat buffer.old result buffer.new }
         ensures lanes { IfOk result (λ g. LanesRead C.Kind.kinds C.beats (width_bytes self.width) self.head self.come beat buffer.old g buffer.new) }
     {
+        // No `?`: the closure of `map_err` would take the burst that is read on.
         match judge::<C>(Some(self.head), self.width, beat, buffer.len()) {
             Ok(_) => Ok(self.take_in(beat, buffer)),
             Err(refusal) => Err((refusal, self)),

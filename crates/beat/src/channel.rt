@@ -14,6 +14,7 @@ pub trait Channel {
 
     type Beat: Copy;
 
+    // The kinds have their own tables, since whole messages are judged by them without any beat.
     ghost beats: { Beats Self.Kind Self.Head Self.Beat };
 
     // What is alike in every beat of a message.

@@ -1,4 +1,5 @@
-// What is alike in every beat of a message, on either channel; no request is denied.
+// What is alike in every beat of a message, on either channel; no request is denied. Heads and beats keep these fields
+// themselves: callers build them, and name them as the bus does.
 #[derive(Clone, Copy, PartialEq)]
 pub struct Header {
     pub opcode: u8,

@@ -34,8 +34,5 @@ pub(crate) fn judge<C: Channel>(
 fn follows<C: Channel>(first: Option<C::Head>, header: Header) -> bool
     ensures { result ≡ same_head C.Kind.kinds C.beats first header }
 {
-    match first {
-        None => true,
-        Some(head) => C::header(head) == header,
-    }
+    first.is_none_or(|head| C::header(head) == header)
 }

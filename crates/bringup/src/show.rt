@@ -76,7 +76,7 @@ pub(crate) fn show_tally(rt: &impl Print, tally: Tally) -> io::Result<()> {
 fn covered(size: u8) -> Option<u8>
     ensures { result ≡ covered size }
 {
-    if size <= 6 { Some(1 << size) } else { None }
+    (size <= 6).then(|| 1 << size)
 }
 
 // A dash where there is nothing to show.

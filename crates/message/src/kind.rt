@@ -7,7 +7,7 @@ use crate::refusal::Refusal;
 pub trait Kind: Copy {
     ghost kinds: { Kinds Self };
 
-    // The kind of an opcode and a param; the opcode is judged first.
+    // The kind of an opcode and a param; the opcode is judged first. Two numbers by name, and no `TryFrom` of a pair.
     fn read(opcode: u8, param: u8) -> Result<Self, Refusal>
         ensures { result ≡ kinds.of opcode param };
 
@@ -23,7 +23,8 @@ pub trait Kind: Copy {
     ghost small: { Small kinds };
 }
 
-// The kind of a message at an address, or the first of the refusals that need no mask and no data.
+// The kind of a message at an address, or the first of the refusals that need no mask and no data. Heads and beats have
+// the four among their own fields, so no struct holds them for this one call.
 #[tactic(auto, unfolding(crate::specs::Kind::placed))]
 pub fn place<K: Kind>(opcode: u8, param: u8, size: u8, address: u32) -> Result<K, Refusal>
     ensures { result ≡ placed K.kinds opcode param size address }

@@ -115,7 +115,7 @@ impl ResponseHead {
         measure(opcode, self.size, data.len())
     }
 
-    // Whether two responses, each with its data, agree in opcode, size, denied and data.
+    // Whether two responses, each with its data, agree in opcode, size, denied and data: equal in three fields, so no derive.
     pub fn alike(self, data: &[u8], other: ResponseHead, other_data: &[u8]) -> bool
         ensures { Decides result (Alike (response self «data».now) (response other other_data.now)) }
     {

@@ -31,6 +31,7 @@ pub enum LineError {
     Memory(AllocError),
 }
 
+// By hand, as the next one: a derived `From` has no contract, and `Tells` names the error.
 impl From<Field> for LineError {
     ghost from_gives = { λ field e. e ≡ error.Fault (fault.Field field) };
 

@@ -35,10 +35,10 @@ fn appended(value: u64, byte: u8, base: Base, limit: u64) -> Option<u64>
     let longer = value
         .checked_mul(u64::from(base.radix()))?
         .checked_add(u64::from(digit))?;
-    if longer <= limit { Some(longer) } else { None }
+    (longer <= limit).then_some(longer)
 }
 
-// The number that `word` writes, where it is one and at most `limit`.
+// The number that `word` writes, where it is one and at most `limit`. `from_str_radix` reads signs too, and has no limit.
 #[tactic(auto, using(crate::proofs::Positions::no_word))]
 pub fn number(word: &[u8], base: Base, limit: u64) -> Option<u64>
     ensures { result ≡ number_of base limit word.now }
@@ -55,6 +55,7 @@ pub fn number(word: &[u8], base: Base, limit: u64) -> Option<u64>
 pub fn byte_pairs(heap: Global, word: &[u8]) -> Result<Option<Vec<u8>>, AllocError>
     ensures { IfOk result (λ bytes. option_map vec_items bytes ≡ bytes_of word.now) }
 {
+    // Into room made here: the error of `hex::decode` mixes want of memory with what a word has wrong.
     let mut bytes = vec![in heap; 0; word.len() / 2]?;
     match hex::decode_to_slice(word, &mut bytes) {
         Ok(()) => Ok(Some(bytes)),

@@ -45,6 +45,7 @@ impl AddressMap {
                 Ok(Some(Finding::Request(entry.head, verdict)))
             }
             Err(LineError::Fault(fault)) => Ok(Some(Finding::Unreadable(fault))),
+            // Only want of memory goes on as an error: a fault is what there is to say.
             Err(LineError::Memory(memory)) => Err(memory),
         }
     }

@@ -10,7 +10,8 @@ use beat::burst::{Burst, begin};
 use beat::channel::Channel;
 use beat::width::Width;
 
-// Joins the beats at the front of a list to a message, its data at the front of `buffer`; none if beats are missing.
+// Joins the beats at the front of a list to a message, its data at the front of `buffer`; none if beats are missing. The
+// width is a number, as in `cut`.
 pub fn join<C: Messages>(
     beats: &[C::Beat],
     width: u8,
@@ -31,16 +32,13 @@ fn read<C: Channel>(
 ) -> Result<Option<Joined<C::Head>>, Unread>
     ensures { Joins C.Kind.kinds C.beats width beats.now buffer.old result buffer.new }
 {
-    if let Err(refusal) = Width::try_from(width) {
-        return Err(Unread { beat: 0, refusal });
-    }
+    Width::try_from(width).map_err(Unread::first)?;
     let [first, rest @ ..] = beats else {
         return Ok(None);
     };
-    match begin::<C>(*first, width, buffer) {
-        Ok(Begun::Whole(head)) => Ok(Some(Joined { head, beats: 1 })),
-        Ok(Begun::Half(burst)) => finish::<C>(burst, rest, buffer),
-        Err(refusal) => Err(Unread { beat: 0, refusal }),
+    match begin::<C>(*first, width, buffer).map_err(Unread::first)? {
+        Begun::Whole(head) => Ok(Some(Joined { head, beats: 1 })),
+        Begun::Half(burst) => finish::<C>(burst, rest, buffer),
     }
 }
 

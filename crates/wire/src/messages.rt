@@ -6,7 +6,7 @@ use beat::channel::Channel;
 use beat::request::ChannelA;
 use beat::response::ChannelD;
 
-// The whole messages of a channel: which are legal, and what makes that they can be joined from their beats.
+// The whole messages of a channel: which are legal, and what it owes so that they can be joined.
 pub trait Messages: Channel {
     ghost messages: { Messages Self.Kind Self.Head Self.Beat };
 
