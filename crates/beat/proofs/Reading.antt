@@ -107,8 +107,8 @@ module _ {K H B : Type 0} (ks : Kinds K) (ch : Beats K H B) where
       data_room k (ch.header (ch.start b)).size room d (fit None w b room k e).roomy
 
   -- a first beat without data is the whole message
-  pub first_whole : (k : K) (w : Width) (b : B) (xs : List ℕ) (h : H) (m : ℕ) → ks.carries k ≡ false → (ch.header (ch.start b)).size ≤ 6 → m ≡ whole (min (ch.header (ch.start b)).size 6) → h ≡ ch.with_mask (ch.start b) m → First ks ch k w b xs (Whole h) xs
-  first_whole k w b xs h m d size em eh =
+  pub first_whole : {U : Type 0} (at : U → Part H) (k : K) (w : Width) (b : B) (xs : List ℕ) (h : H) (m : ℕ) → ks.carries k ≡ false → (ch.header (ch.start b)).size ≤ 6 → m ≡ whole (min (ch.header (ch.start b)).size 6) → h ≡ ch.with_mask (ch.start b) m → First ks ch at k w b xs (Whole h) xs
+  first_whole at k w b xs h m d size em eh =
       rw d (ap Whole (eh ∙ ap (ch.with_mask (ch.start b)) (em ∙ ap whole (omega arith))), refl)
 
   -- so it is with a later one
@@ -136,28 +136,28 @@ module _ {K H B : Type 0} (ks : Kinds K) (ch : Beats K H B) where
             (subst (λ m. m < 2 ^ ((j + 1) * per ks ch w h)) (sym mask) (grown (ch.lane_mask b / 2 ^ lane_of ks ch w h) (per ks ch w h) (per ks ch w h) j (ch.mask h) n refl d.low refl));
       }
 
-  mask_stands : (w : Width) (h : H) (j : ℕ) (b : B) (g : Begun H (Part H)) → Stands ks ch w h j b g → mask_read ks ch g ≡ ch.mask (head_after ks ch w h j b)
-  mask_stands w h j b (Whole g) s = ap ch.mask s.1
-  mask_stands w h j b (Half u) s = ap (λ p. ch.mask p.head) s.1
+  mask_stands : {U : Type 0} (at : U → Part H) (w : Width) (h : H) (j : ℕ) (b : B) (g : Begun H U) → Stands ks ch at w h j b g → mask_read ks ch at g ≡ ch.mask (head_after ks ch w h j b)
+  mask_stands at w h j b (Whole g) s = ap ch.mask s.1
+  mask_stands at w h j b (Half u) s = ap (λ p. ch.mask p.head) s.1
 
   -- the lanes of a beat that is taken in
-  pub lanes_read : Laws ch → (w : Width) (h : H) (j : ℕ) (b : B) (xs : List ℕ) (g : Begun H (Part H)) (ys : List ℕ) → Due ks ch w h j → 2 ^ (ch.header h).size ≤ length xs → Taken ks ch w h j b xs g ys → LanesRead ks ch (width_bytes w) h j b xs g ys
-  lanes_read laws w h j b xs g ys d room t =
+  pub lanes_read : Laws ch → {U : Type 0} (at : U → Part H) (w : Width) (h : H) (j : ℕ) (b : B) (xs : List ℕ) (g : Begun H U) (ys : List ℕ) → Due ks ch w h j → 2 ^ (ch.header h).size ≤ length xs → Taken ks ch at w h j b xs g ys → LanesRead ks ch at (width_bytes w) h j b xs g ys
+  lanes_read laws at w h j b xs g ys d room t =
       let q = ch.header h in
       let n = width_bytes w in
       let s = shape w q.size q.address d.size d.aligned in
-      let mask = mask_stands w h j b g t.stands ∙ laws.masked h b (lane_of ks ch w h) (per ks ch w h) (j * per ks ch w h) in
+      let mask = mask_stands at w h j b g t.stands ∙ laws.masked h b (lane_of ks ch w h) (per ks ch w h) (j * per ks ch w h) in
       record {
         bytes = subst (λ zs. Received n q.address q.size j (lane_byte (heard ks ch b)) (λ i. get_or xs i 0) (λ i. get_or zs i 0)) (sym t.buffer) (bytes_received n q.size q.address s j d.due (heard ks ch b) xs room);
         bits = subst (λ m. Received n q.address q.size j (bit (ch.lane_mask b)) (bit (ch.mask h)) (bit m)) (sym mask) (bits_received n q.size q.address s j d.due (ch.lane_mask b) (ch.mask h) d.low);
       }
 
   -- the reader's answer where nothing is refused
-  pub began_with : (n : ℕ) (w : Width) (b : B) (k : K) (xs : List ℕ) (g : Begun H (Part H)) (ys : List ℕ) → width_of n ≡ Ok w → judged ks ch None w b (length xs) ≡ Ok k → First ks ch k w b xs g ys → Began ks ch n b xs (Ok g) ys
-  began_with n w b k xs g ys wide fits f =
-      let r : Result (Begun H (Part H)) Refusal = Ok g in
-      not_refused (λ e. e) (width_of n) w r xs ys (λ v. UnlessRefused (λ e. e) (judged ks ch None v b (length xs)) r xs ys (λ p. First ks ch p v b xs g ys)) wide
-      (not_refused (λ e. e) (judged ks ch None w b (length xs)) k r xs ys (λ p. First ks ch p w b xs g ys) fits f)
+  pub began_with : {U : Type 0} (at : U → Part H) (n : ℕ) (w : Width) (b : B) (k : K) (xs : List ℕ) (g : Begun H U) (ys : List ℕ) → width_of n ≡ Ok w → judged ks ch None w b (length xs) ≡ Ok k → First ks ch at k w b xs g ys → Began ks ch at n b xs (Ok g) ys
+  began_with {U} at n w b k xs g ys wide fits f =
+      let r : Result (Begun H U) Refusal = Ok g in
+      not_refused (λ e. e) (width_of n) w r xs ys (λ v. UnlessRefused (λ e. e) (judged ks ch None v b (length xs)) r xs ys (λ p. First ks ch at p v b xs g ys)) wide
+      (not_refused (λ e. e) (judged ks ch None w b (length xs)) k r xs ys (λ p. First ks ch at p w b xs g ys) fits f)
 
   sent_small : (d : Bool) (xs : List ℕ) → Each1 (λ x. x < 256) xs → Each1 (λ x. x < 256) (cond d (replicate (length xs) 0) xs)
   sent_small true xs h = Each1-replicate (λ x. x < 256) (length xs) 0 (omega arith)

@@ -141,10 +141,10 @@ module _ {K H B : Type 0} (ks : Kinds K) (ch : Beats K H B) where
   head_after w h j b =
       ch.with_mask h (more_mask (lane_of w h) (per w h) (j * per w h) (ch.lane_mask b) (ch.mask h))
 
-  -- what stands once beat j is read: the message if it was the last, else a burst that waits for the next
-  abbrev pub Stands : Width → H → ℕ → B → Begun H (Part H) → Type 0
-  Stands w h j b (Whole g) = (j + 1 ≡ beats w true h) × (g ≡ head_after w h j b)
-  Stands w h j b (Half u) = (j + 1 < beats w true h) × (u ≡ part (head_after w h j b) w (j + 1))
+  -- what stands once beat j is read: the message if it was the last, else a burst u, of which `at u` has come
+  abbrev pub Stands : {U : Type 0} → (U → Part H) → Width → H → ℕ → B → Begun H U → Type 0
+  Stands at w h j b (Whole g) = (j + 1 ≡ beats w true h) × (g ≡ head_after w h j b)
+  Stands at w h j b (Half u) = (j + 1 < beats w true h) × (at u ≡ part (head_after w h j b) w (j + 1))
 
   -- a buffer after beat j
   abbrev pub buffer_with : Width → H → ℕ → B → List ℕ → List ℕ
@@ -152,40 +152,40 @@ module _ {K H B : Type 0} (ks : Kinds K) (ch : Beats K H B) where
       buffer_after (width_bytes w) (ch.header h).address (ch.header h).size j (heard b) xs
 
   -- beat j of a message with data is read: what stands, and every byte of the buffer
-  pub record Taken (w : Width) (h : H) (j : ℕ) (b : B) (xs : List ℕ) (g : Begun H (Part H)) (ys : List ℕ) : Type 0 where
-    pub stands : Stands w h j b g
+  pub record Taken {U : Type 0} (at : U → Part H) (w : Width) (h : H) (j : ℕ) (b : B) (xs : List ℕ) (g : Begun H U) (ys : List ℕ) : Type 0 where
+    pub stands : Stands at w h j b g
     pub buffer : ys ≡ buffer_with w h j b xs
 
   -- the mask of what is read
-  abbrev pub mask_read : Begun H (Part H) → ℕ
-  mask_read (Whole h) = ch.mask h
-  mask_read (Half u) = ch.mask u.head
+  abbrev pub mask_read : {U : Type 0} → (U → Part H) → Begun H U → ℕ
+  mask_read at (Whole h) = ch.mask h
+  mask_read at (Half u) = ch.mask (at u).head
 
   -- each active lane has gone to the byte of its address, and its mask bit to that byte's; nothing else has changed
-  pub record LanesRead (n : ℕ) (h : H) (j : ℕ) (b : B) (xs : List ℕ) (g : Begun H (Part H)) (ys : List ℕ) : Type 0 where
+  pub record LanesRead {U : Type 0} (at : U → Part H) (n : ℕ) (h : H) (j : ℕ) (b : B) (xs : List ℕ) (g : Begun H U) (ys : List ℕ) : Type 0 where
     pub bytes : Received n (ch.header h).address (ch.header h).size j (lane_byte (heard b)) (λ i. slice_index xs i) (λ i. slice_index ys i)
-    pub bits : Received n (ch.header h).address (ch.header h).size j (bit (ch.lane_mask b)) (bit (ch.mask h)) (bit (mask_read g))
+    pub bits : Received n (ch.header h).address (ch.header h).size j (bit (ch.lane_mask b)) (bit (ch.mask h)) (bit (mask_read at g))
 
   -- a first beat is read: the message is whole if it has no data
-  abbrev pub First : K → Width → B → List ℕ → Begun H (Part H) → List ℕ → Type 0
-  First k w b xs g ys =
+  abbrev pub First : {U : Type 0} → (U → Part H) → K → Width → B → List ℕ → Begun H U → List ℕ → Type 0
+  First at k w b xs g ys =
       let h = ch.start b in
       cond (ks.carries k)
-      (Taken w h 0 b xs g ys)
+      (Taken at w h 0 b xs g ys)
       ((g ≡ Whole (ch.with_mask h (whole (ch.header h).size))) × (ys ≡ xs))
 
   -- reading is begun: the first refusal, with the buffer as it was, or the first beat is read
-  abbrev pub Began : ℕ → B → List ℕ → Result (Begun H (Part H)) Refusal → List ℕ → Type 0
-  Began n b xs r ys =
+  abbrev pub Began : {U : Type 0} → (U → Part H) → ℕ → B → List ℕ → Result (Begun H U) Refusal → List ℕ → Type 0
+  Began at n b xs r ys =
       UnlessRefused (λ e. e) (width_of n) r xs ys (λ w.
       UnlessRefused (λ e. e) (judged None w b (length xs)) r xs ys (λ k.
-      CarriedOut r (λ g. First k w b xs g ys)))
+      CarriedOut r (λ g. First at k w b xs g ys)))
 
   -- reading goes on: a refusal hands back the same burst and leaves the buffer, or the next beat is read
-  abbrev pub Went : Part H → B → List ℕ → Result (Begun H (Part H)) (Refusal × Part H) → List ℕ → Type 0
-  Went u b xs r ys =
-      UnlessRefused (λ e. (e, u)) (judged (Some u.head) u.width b (length xs)) r xs ys (λ k.
-      CarriedOut r (λ g. Taken u.width u.head u.come b xs g ys))
+  abbrev pub Went : {U : Type 0} → (U → Part H) → U → B → List ℕ → Result (Begun H U) (Refusal × U) → List ℕ → Type 0
+  Went at u b xs r ys =
+      UnlessRefused (λ e. (e, u)) (judged (Some (at u).head) (at u).width b (length xs)) r xs ys (λ k.
+      CarriedOut r (λ g. Taken at (at u).width (at u).head (at u).come b xs g ys))
 
 -- what a channel owes: a mask changes no header and takes the last one's place, and a beat carries the lanes and the
 -- mask bits that it is made of

@@ -1,6 +1,6 @@
 ghost use Rattle.std.specs.Prelude.{◌≡◌, ◌≤◌, ◌^◌, true, length, IfOk};
 ghost use Rattle.beat.specs.Width.{width_bytes};
-ghost use Rattle.beat.specs.Channel.{Part, part, heard, carries, Due, Stands, buffer_with, Began, Went, LanesRead};
+ghost use Rattle.beat.specs.Channel.{part, heard, carries, Due, Stands, buffer_with, Began, Went, LanesRead};
 
 use crate::begun::Begun;
 use crate::channel::Channel;
@@ -10,22 +10,14 @@ use crate::width::Width;
 use message::kind::Kind;
 use message::refusal::Refusal;
 use message::request::whole_mask;
-use std::marker::Model;
 
 // A message of which beats are still due: its head with the mask so far, and how many beats have come.
 // It is not `Drop`, so the check refuses code that lets a half-sent one lapse.
 pub struct Burst<C: Channel> {
-    head: C::Head,
-    width: Width,
-    come: usize,
-}
-
-impl<C: Channel> Model for Burst<C> {
-    ghost Value = { Part C.Head };
-
-    ghost view = { λ u. part u.head u.width u.come };
-
-    ghost invariant = { λ u. Due C.Kind.kinds C.beats u.width u.head u.come };
+    pub(crate) head: C::Head,
+    pub(crate) width: Width,
+    pub(crate) come: usize,
+    ghost due: { Due C.Kind.kinds C.beats width head come },
 }
 
 // Reads a message's first beat, with its data to the front of `buffer`.
@@ -34,8 +26,8 @@ pub fn begin<C: Channel>(
     width: u8,
     buffer: &mut [u8],
 ) -> Result<Begun<C::Head, Burst<C>>, Refusal>
-    ensures answer { Began C.Kind.kinds C.beats width beat buffer.old result buffer.new }
-    ensures lanes { IfOk result (λ g. carries C.Kind.kinds C.beats (C.beats.start beat) ≡ true → LanesRead C.Kind.kinds C.beats width (C.beats.start beat) 0 beat buffer.old g buffer.new) }
+    ensures answer { Began C.Kind.kinds C.beats (λ u. part u.head u.width u.come) width beat buffer.old result buffer.new }
+    ensures lanes { IfOk result (λ g. carries C.Kind.kinds C.beats (C.beats.start beat) ≡ true → LanesRead C.Kind.kinds C.beats (λ u. part u.head u.width u.come) width (C.beats.start beat) 0 beat buffer.old g buffer.new) }
 {
     let width = Width::try_from(width)?;
     let kind = judge::<C>(None, width, beat, buffer.len())?;
@@ -59,8 +51,8 @@ impl<C: Channel> Burst<C> {
         beat: C::Beat,
         buffer: &mut [u8],
     ) -> Result<Begun<C::Head, Burst<C>>, (Refusal, Burst<C>)>
-        ensures answer { Went C.Kind.kinds C.beats self beat buffer.old result buffer.new }
-        ensures lanes { IfOk result (λ g. LanesRead C.Kind.kinds C.beats (width_bytes self.width) self.head self.come beat buffer.old g buffer.new) }
+        ensures answer { Went C.Kind.kinds C.beats (λ u. part u.head u.width u.come) self beat buffer.old result buffer.new }
+        ensures lanes { IfOk result (λ g. LanesRead C.Kind.kinds C.beats (λ u. part u.head u.width u.come) (width_bytes self.width) self.head self.come beat buffer.old g buffer.new) }
     {
         // No `?`: the closure of `map_err` would take the burst that is read on.
         match judge::<C>(Some(self.head), self.width, beat, buffer.len()) {
@@ -72,7 +64,7 @@ impl<C: Channel> Burst<C> {
     // Reads the beat that is due, which is not refused.
     fn take_in(self, beat: C::Beat, buffer: &mut [u8]) -> Begun<C::Head, Burst<C>>
         requires { 2 ^ (C.beats.header self.head).size ≤ length buffer.old }
-        ensures stands { Stands C.Kind.kinds C.beats self.width self.head self.come beat result }
+        ensures stands { Stands C.Kind.kinds C.beats (λ u. part u.head u.width u.come) self.width self.head self.come beat result }
         ensures buffer { buffer.new ≡ buffer_with C.Kind.kinds C.beats self.width self.head self.come beat buffer.old }
     {
         let Burst { head, width, come } = self;

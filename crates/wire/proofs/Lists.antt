@@ -14,9 +14,9 @@ use Rattle.wire.specs.Rules.{head_of, Read, HalfRead}
 use Rattle.wire.specs.Joins.{unread, Ends, EndsList, Joins}
 use Rattle.wire.proofs.Progress.{Reached, begun_on, burst_on, burst_stops}
 
-module _ {K H B : Type 0} (ks : Kinds K) (ch : Beats K H B) (laws : Laws ch) where
+module _ {K H B : Type 0} (ks : Kinds K) (ch : Beats K H B) (laws : Laws ch) {U : Type 0} (at : U → Part H) where
   -- a list whose beats from the first to the one at i are read, and the rest
-  module _ (w : Width) (k : K) (b : B) (bs : List B) (i : ℕ) (xs : List ℕ) (u : Part H) (ys : List ℕ) (half : HalfRead ks ch w k b (b ∷ take i bs) xs u ys) where
+  module _ (w : Width) (k : K) (b : B) (bs : List B) (i : ℕ) (xs : List ℕ) (u : U) (ys : List ℕ) (half : HalfRead ks ch at w k b (b ∷ take i bs) xs u ys) where
     -- the next one is the last
     module _ (lt : i < length bs) (c : B) (is : c ≡ get_or bs i c) where
       next_taken : b ∷ (take i bs ++ c ∷ []) ≡ b ∷ take (i + 1) bs
@@ -25,27 +25,27 @@ module _ {K H B : Type 0} (ks : Kinds K) (ch : Beats K H B) (laws : Laws ch) whe
       front : (n : ℕ) → take (suc n) (b ∷ bs) ≡ b ∷ take n bs
       front n = refl
 
-      all_read : (h : H) (zs : List ℕ) → Reached ks ch w k b (b ∷ (take i bs ++ c ∷ [])) xs (Whole h) zs → Ends ks ch w k b (b ∷ bs) xs (Ok (Some (record { head = h; beats = i + 2 }))) zs
+      all_read : (h : H) (zs : List ℕ) → Reached ks ch at w k b (b ∷ (take i bs ++ c ∷ [])) xs (Whole h) zs → Ends ks ch w k b (b ∷ bs) xs (Ok (Some (record { head = h; beats = i + 2 }))) zs
       all_read h zs r =
           let next : i + 2 ≡ suc (i + 1) = omega arith in
           let all : b ∷ (take i bs ++ c ∷ []) ≡ take (i + 2) (b ∷ bs) = next_taken ∙ ap (λ n. take n (b ∷ bs)) (sym next) in
           let long : length (b ∷ take (i + 1) bs) ≡ i + 2 = omega (arith, length-take-le (i + 1) bs (omega arith)) in
           (omega (arith, r.0, ap length next_taken, long), omega arith, subst (λ cs. Read ks ch w k b cs xs zs) all r.1, r.2 ∙ ap (head_of ks ch w k (ch.start b)) all)
 
-      pub ends_whole : (h : H) (zs : List ℕ) → length zs ≡ length ys → Went ks ch u c ys (Ok (Whole h)) zs → Ends ks ch w k b (b ∷ bs) xs (Ok (Some (record { head = h; beats = i + 2 }))) zs
+      pub ends_whole : (h : H) (zs : List ℕ) → length zs ≡ length ys → Went ks ch at u c ys (Ok (Whole h)) zs → Ends ks ch w k b (b ∷ bs) xs (Ok (Some (record { head = h; beats = i + 2 }))) zs
       ends_whole h zs long went =
-          all_read h zs (burst_on ks ch laws w k b (b ∷ take i bs) xs u ys half c (Whole h) zs long went)
+          all_read h zs (burst_on ks ch laws at w k b (b ∷ take i bs) xs u ys half c (Whole h) zs long went)
 
       -- or one more is due
-      pub goes_on : (v : Part H) (zs : List ℕ) → length zs ≡ length ys → Went ks ch u c ys (Ok (Half v)) zs → HalfRead ks ch w k b (b ∷ take (i + 1) bs) xs v zs
+      pub goes_on : (v : U) (zs : List ℕ) → length zs ≡ length ys → Went ks ch at u c ys (Ok (Half v)) zs → HalfRead ks ch at w k b (b ∷ take (i + 1) bs) xs v zs
       goes_on v zs long went =
-          subst (λ cs. HalfRead ks ch w k b cs xs v zs) next_taken
-          (burst_on ks ch laws w k b (b ∷ take i bs) xs u ys half c (Half v) zs long went)
+          subst (λ cs. HalfRead ks ch at w k b cs xs v zs) next_taken
+          (burst_on ks ch laws at w k b (b ∷ take i bs) xs u ys half c (Half v) zs long went)
 
       -- or it is refused
-      pub ends_refused : (e : Refusal) (v : Part H) (zs : List ℕ) → Went ks ch u c ys (Err (e, v)) zs → Ends ks ch w k b (b ∷ bs) xs (Err (record { beat = i + 1; refusal = e })) zs
+      pub ends_refused : (e : Refusal) (v : U) (zs : List ℕ) → Went ks ch at u c ys (Err (e, v)) zs → Ends ks ch w k b (b ∷ bs) xs (Err (record { beat = i + 1; refusal = e })) zs
       ends_refused e v zs went =
-          let stops = burst_stops ks ch laws w k b (b ∷ take i bs) xs u ys half c e v zs went in
+          let stops = burst_stops ks ch laws at w k b (b ∷ take i bs) xs u ys half c e v zs went in
           let next : i + 1 ≡ suc i = omega arith in
           let read : Read ks ch w k b (b ∷ take i bs) xs zs = subst (λ vs. Read ks ch w k b (b ∷ take i bs) xs vs) (sym stops.1) half.read in (
             omega arith,
@@ -66,13 +66,13 @@ module _ {K H B : Type 0} (ks : Kinds K) (ch : Beats K H B) (laws : Laws ch) whe
       not_refused (unread 0) (width_of n) w r xs ys (λ v. EndsList ks ch v (b ∷ bs) xs r ys) wide
       (not_refused (unread 0) (judged ks ch None w b (length xs)) k r xs ys (λ p. Ends ks ch w p b (b ∷ bs) xs r ys) j e)
 
-  pub joins_whole : (n : ℕ) (w : Width) (b : B) (bs : List B) (xs : List ℕ) (h : H) (ys : List ℕ) → length ys ≡ length xs → width_of n ≡ Ok w → Began ks ch n b xs (Ok (Whole h)) ys → Joins ks ch n (b ∷ bs) xs (Ok (Some (record { head = h; beats = 1 }))) ys
+  pub joins_whole : (n : ℕ) (w : Width) (b : B) (bs : List B) (xs : List ℕ) (h : H) (ys : List ℕ) → length ys ≡ length xs → width_of n ≡ Ok w → Began ks ch at n b xs (Ok (Whole h)) ys → Joins ks ch n (b ∷ bs) xs (Ok (Some (record { head = h; beats = 1 }))) ys
   joins_whole n w b bs xs h ys long wide began =
-      let p = begun_on ks ch laws n w b xs (Whole h) ys long wide began in
+      let p = begun_on ks ch laws at n w b xs (Whole h) ys long wide began in
       let r = p.2 in
       joins_begun n w p.0 b bs xs (Ok (Some (record { head = h; beats = 1 }))) ys wide p.1 (r.0, omega arith, r.1, r.2)
 
-  pub joins_half : (n : ℕ) (w : Width) (b : B) (bs : List B) (xs : List ℕ) (u : Part H) (ys : List ℕ) (r : Result (Option (Joined H)) Unread) (zs : List ℕ) → length ys ≡ length xs → width_of n ≡ Ok w → Began ks ch n b xs (Ok (Half u)) ys → ((k : K) → HalfRead ks ch w k b (b ∷ []) xs u ys → Ends ks ch w k b (b ∷ bs) xs r zs) → Joins ks ch n (b ∷ bs) xs r zs
+  pub joins_half : (n : ℕ) (w : Width) (b : B) (bs : List B) (xs : List ℕ) (u : U) (ys : List ℕ) (r : Result (Option (Joined H)) Unread) (zs : List ℕ) → length ys ≡ length xs → width_of n ≡ Ok w → Began ks ch at n b xs (Ok (Half u)) ys → ((k : K) → HalfRead ks ch at w k b (b ∷ []) xs u ys → Ends ks ch w k b (b ∷ bs) xs r zs) → Joins ks ch n (b ∷ bs) xs r zs
   joins_half n w b bs xs u ys r zs long wide began rest =
-      let p = begun_on ks ch laws n w b xs (Half u) ys long wide began in
+      let p = begun_on ks ch laws at n w b xs (Half u) ys long wide began in
       joins_begun n w p.0 b bs xs r zs wide p.1 (rest p.0 p.2)

@@ -50,10 +50,10 @@ module _ {K H B : Type 0} (ks : Kinds K) (ch : Beats K H B) where
       cc
 
   -- what is known once the beats bs are read: the message, or a burst that waits
-  abbrev pub Reached : Width → K → B → List B → List ℕ → Begun H (Part H) → List ℕ → Type 0
-  Reached w k b bs xs (Whole h) ys =
+  abbrev pub Reached : {U : Type 0} → (U → Part H) → Width → K → B → List B → List ℕ → Begun H U → List ℕ → Type 0
+  Reached at w k b bs xs (Whole h) ys =
       (length bs ≡ due ks ch w k (ch.start b)) × Read ks ch w k b bs xs ys × (h ≡ head_of ks ch w k (ch.start b) bs)
-  Reached w k b bs xs (Half u) ys = HalfRead ks ch w k b bs xs u ys
+  Reached at w k b bs xs (Half u) ys = HalfRead ks ch at w k b bs xs u ys
 
 module _ {K H B : Type 0} (ks : Kinds K) (ch : Beats K H B) (laws : Laws ch) (w : Width) (k : K) (b : B) (d : ks.carries k ≡ true) where
   abbrev s : H
@@ -111,8 +111,8 @@ module _ {K H B : Type 0} (ks : Kinds K) (ch : Beats K H B) (laws : Laws ch) (w 
     buffer_after xs ys zs e t =
         buffer_more bs c xs ys zs e (t ∙ (λ i. put (first_lane (width_bytes w) (header_is i).address) (per_beat (width_bytes w) (header_is i).size) (length bs) (heard ks ch c) ys))
 
-    pub read_on : (xs ys zs : List ℕ) (g : Begun H (Part H)) → length zs ≡ length xs → Read ks ch w k b bs xs ys → judged ks ch (Some s) w c (length xs) ≡ Ok k → Taken ks ch w h (length bs) c ys g zs → Reached ks ch w k b (bs ++ c ∷ []) xs g zs
-    read_on xs ys zs (Whole g) long-buffer r j t =
+    pub read_on : {U : Type 0} (at : U → Part H) (xs ys zs : List ℕ) (g : Begun H U) → length zs ≡ length xs → Read ks ch w k b bs xs ys → judged ks ch (Some s) w c (length xs) ≡ Ok k → Taken ks ch at w h (length bs) c ys g zs → Reached ks ch at w k b (bs ++ c ∷ []) xs g zs
+    read_on at xs ys zs (Whole g) long-buffer r j t =
         let end : length (bs ++ c ∷ []) ≡ due ks ch w k s = length_push bs c ∙ t.stands.0 ∙ ap (λ x. beat_count true (width_bytes w) x.size) header_is ∙ sym count_is in (
           end,
           record {
@@ -123,7 +123,7 @@ module _ {K H B : Type 0} (ks : Kinds K) (ch : Beats K H B) (laws : Laws ch) (w 
           },
           t.stands.1 ∙ after_is ∙ sym (head_is (bs ++ c ∷ [])),
         )
-    read_on xs ys zs (Half u) long-buffer r j t =
+    read_on at xs ys zs (Half u) long-buffer r j t =
         let count = ap (λ x. beat_count true (width_bytes w) x.size) header_is ∙ sym count_is in
         let more : length (bs ++ c ∷ []) < due ks ch w k s = omega (arith, length_push bs c, t.stands.0, count) in
         record {
@@ -141,19 +141,19 @@ module _ {K H B : Type 0} (ks : Kinds K) (ch : Beats K H B) (laws : Laws ch) (w 
           long = long-buffer;
         }
 
-module _ {K H B : Type 0} (ks : Kinds K) (ch : Beats K H B) (laws : Laws ch) where
+module _ {K H B : Type 0} (ks : Kinds K) (ch : Beats K H B) (laws : Laws ch) {U : Type 0} (at : U → Part H) where
   none_read : (w : Width) (k : K) (b : B) (xs : List ℕ) → ks.carries k ≡ true → judged ks ch None w b (length xs) ≡ Ok k → Read ks ch w k b [] xs xs
   none_read w k b xs d j = record { begun = j; accepted = tt; few = omega arith; buffer = rw d }
 
-  first_read : (w : Width) (k : K) (b : B) (xs : List ℕ) (g : Begun H (Part H)) (ys : List ℕ) → length ys ≡ length xs → judged ks ch None w b (length xs) ≡ Ok k → judged ks ch (Some (ch.start b)) w b (length xs) ≡ Ok k → (d : Bool) → ks.carries k ≡ d → First ks ch k w b xs g ys → Reached ks ch w k b (b ∷ []) xs g ys
+  first_read : (w : Width) (k : K) (b : B) (xs : List ℕ) (g : Begun H U) (ys : List ℕ) → length ys ≡ length xs → judged ks ch None w b (length xs) ≡ Ok k → judged ks ch (Some (ch.start b)) w b (length xs) ≡ Ok k → (d : Bool) → ks.carries k ≡ d → First ks ch at k w b xs g ys → Reached ks ch at w k b (b ∷ []) xs g ys
   first_read w k b xs g ys long first j true d f =
-      let taken : Taken ks ch w (ch.start b) 0 b xs g ys = rw d at f in
-      read_on ks ch laws w k b d [] b (ch.start b) (sym (laws.unset b)) (laws.unmasked b) xs xs ys g long (none_read w k b xs d first) j taken
+      let taken : Taken ks ch at w (ch.start b) 0 b xs g ys = rw d at f in
+      read_on ks ch laws w k b d [] b (ch.start b) (sym (laws.unset b)) (laws.unmasked b) at xs xs ys g long (none_read w k b xs d first) j taken
   first_read w k b xs g ys long first j false d f =
       let both : (g ≡ Whole (ch.with_mask (ch.start b) (whole (ch.header (ch.start b)).size))) × (ys ≡ xs) = rw d at f in
       let one : due ks ch w k (ch.start b) ≡ 1 = ap (λ t. beats ks ch w t (ch.start b)) d in
       let nil : bytes_of ks ch w k (ch.start b) (b ∷ []) ≡ [] = cond-false (ks.carries k) _ [] d in
-      subst (λ x. Reached ks ch w k b (b ∷ []) xs x ys) (sym both.0) (
+      subst (λ x. Reached ks ch at w k b (b ∷ []) xs x ys) (sym both.0) (
         sym one,
         record {
           begun = first;
@@ -165,41 +165,41 @@ module _ {K H B : Type 0} (ks : Kinds K) (ch : Beats K H B) (laws : Laws ch) whe
       )
 
   -- a burst that waits, and its next beat
-  module _ (w : Width) (k : K) (b : B) (bs : List B) (xs : List ℕ) (u : Part H) (ys : List ℕ) (h : HalfRead ks ch w k b bs xs u ys) (c : B) where
-    head_there : u.head ≡ ch.with_mask (ch.start b) (mask_of ks ch w (ch.start b) bs)
+  module _ (w : Width) (k : K) (b : B) (bs : List B) (xs : List ℕ) (u : U) (ys : List ℕ) (h : HalfRead ks ch at w k b bs xs u ys) (c : B) where
+    head_there : (at u).head ≡ ch.with_mask (ch.start b) (mask_of ks ch w (ch.start b) bs)
     head_there = ap (λ p. p.head) h.come ∙ head_is ks ch laws w k b h.carries bs
 
-    burst_judged : judged ks ch (Some u.head) u.width c (length ys) ≡ judged ks ch (Some (ch.start b)) w c (length xs)
+    burst_judged : judged ks ch (Some (at u).head) (at u).width c (length ys) ≡ judged ks ch (Some (ch.start b)) w c (length xs)
     burst_judged =
-        (λ i. judged ks ch (Some u.head) (h.come i).width c (h.long i))
-        ∙ judged_by ks ch u.head (ch.start b) (ap ch.header head_there ∙ laws.header_kept (ch.start b) (mask_of ks ch w (ch.start b) bs)) w c (length xs)
+        (λ i. judged ks ch (Some (at u).head) (h.come i).width c (h.long i))
+        ∙ judged_by ks ch (at u).head (ch.start b) (ap ch.header head_there ∙ laws.header_kept (ch.start b) (mask_of ks ch w (ch.start b) bs)) w c (length xs)
 
-    pub burst_on : (g : Begun H (Part H)) (zs : List ℕ) → length zs ≡ length ys → Went ks ch u c ys (Ok g) zs → Reached ks ch w k b (bs ++ c ∷ []) xs g zs
+    pub burst_on : (g : Begun H U) (zs : List ℕ) → length zs ≡ length ys → Went ks ch at u c ys (Ok g) zs → Reached ks ch at w k b (bs ++ c ∷ []) xs g zs
     burst_on g zs long went =
-        let parts = carried_on (λ e. (e, u)) (judged ks ch (Some u.head) u.width c (length ys)) g ys zs (λ p. Taken ks ch u.width u.head u.come c ys g zs) went in
+        let parts = carried_on (λ e. (e, u)) (judged ks ch (Some (at u).head) (at u).width c (length ys)) g ys zs (λ p. Taken ks ch at (at u).width (at u).head (at u).come c ys g zs) went in
         let j : judged ks ch (Some (ch.start b)) w c (length xs) ≡ Ok parts.0 = sym burst_judged ∙ parts.1 in
         let same : parts.0 ≡ k = same_kind ks ch w b c (length xs) k parts.0 (fit ks ch None w b (length xs) k h.read.begun).of j in
-        read_on ks ch laws w k b h.carries bs c u.head head_there h.mask xs ys zs g (long ∙ h.long) h.read (j ∙ ap Ok same)
-        (subst (λ (T : Type 0). T) (λ i. Taken ks ch (h.come i).width u.head (h.come i).come c ys g zs) parts.2)
+        read_on ks ch laws w k b h.carries bs c (at u).head head_there h.mask at xs ys zs g (long ∙ h.long) h.read (j ∙ ap Ok same)
+        (subst (λ (T : Type 0). T) (λ i. Taken ks ch at (h.come i).width (at u).head (h.come i).come c ys g zs) parts.2)
 
-    pub burst_stops : (e : Refusal) (v : Part H) (zs : List ℕ) → Went ks ch u c ys (Err (e, v)) zs → (judged ks ch (Some (ch.start b)) w c (length xs) ≡ Err e) × (zs ≡ ys)
+    pub burst_stops : (e : Refusal) (v : U) (zs : List ℕ) → Went ks ch at u c ys (Err (e, v)) zs → (judged ks ch (Some (ch.start b)) w c (length xs) ≡ Err e) × (zs ≡ ys)
     burst_stops e v zs went =
-        let r : Result (Begun H (Part H)) (Refusal × Part H) = Err (e, v) in
-        let parts = stopped (λ x. (x, u)) (judged ks ch (Some u.head) u.width c (length ys)) r (e, v) ys zs (λ p. ⊥) (λ p x. x) refl went in
+        let r : Result (Begun H U) (Refusal × U) = Err (e, v) in
+        let parts = stopped (λ x. (x, u)) (judged ks ch (Some (at u).head) (at u).width c (length ys)) r (e, v) ys zs (λ p. ⊥) (λ p x. x) refl went in
         (sym burst_judged ∙ parts.1 ∙ ap Err (sym (ap (λ x. x.0) parts.2)), parts.3)
 
   -- the first beat
-  pub begun_on : (n : ℕ) (w : Width) (b : B) (xs : List ℕ) (g : Begun H (Part H)) (ys : List ℕ) → length ys ≡ length xs → width_of n ≡ Ok w → Began ks ch n b xs (Ok g) ys → (k : K) × (judged ks ch None w b (length xs) ≡ Ok k) × Reached ks ch w k b (b ∷ []) xs g ys
+  pub begun_on : (n : ℕ) (w : Width) (b : B) (xs : List ℕ) (g : Begun H U) (ys : List ℕ) → length ys ≡ length xs → width_of n ≡ Ok w → Began ks ch at n b xs (Ok g) ys → (k : K) × (judged ks ch None w b (length xs) ≡ Ok k) × Reached ks ch at w k b (b ∷ []) xs g ys
   begun_on n w b xs g ys long wide began =
-      let r : Result (Begun H (Part H)) Refusal = Ok g in
-      let inner = subst (λ v. UnlessRefused (λ e. e) v r xs ys (λ x. UnlessRefused (λ e. e) (judged ks ch None x b (length xs)) r xs ys (λ k. First ks ch k x b xs g ys))) wide began in
-      let parts = carried_on (λ e. e) (judged ks ch None w b (length xs)) g xs ys (λ k. First ks ch k w b xs g ys) inner in
+      let r : Result (Begun H U) Refusal = Ok g in
+      let inner = subst (λ v. UnlessRefused (λ e. e) v r xs ys (λ x. UnlessRefused (λ e. e) (judged ks ch None x b (length xs)) r xs ys (λ k. First ks ch at k x b xs g ys))) wide began in
+      let parts = carried_on (λ e. e) (judged ks ch None w b (length xs)) g xs ys (λ k. First ks ch at k w b xs g ys) inner in
       let k = parts.0 in
       (k, parts.1, first_read w k b xs g ys long parts.1 (self_judged ks ch w b (length xs) ∙ parts.1) (ks.carries k) refl parts.2)
 
-  pub begun_stops : (n : ℕ) (w : Width) (b : B) (xs : List ℕ) (e : Refusal) (ys : List ℕ) → width_of n ≡ Ok w → Began ks ch n b xs (Err e) ys → (judged ks ch None w b (length xs) ≡ Err e) × (ys ≡ xs)
+  pub begun_stops : (n : ℕ) (w : Width) (b : B) (xs : List ℕ) (e : Refusal) (ys : List ℕ) → width_of n ≡ Ok w → Began ks ch at n b xs (Err e) ys → (judged ks ch None w b (length xs) ≡ Err e) × (ys ≡ xs)
   begun_stops n w b xs e ys wide began =
-      let r : Result (Begun H (Part H)) Refusal = Err e in
+      let r : Result (Begun H U) Refusal = Err e in
       let inner = subst (λ v. UnlessRefused (λ e. e) v r xs ys (λ x. UnlessRefused (λ e. e) (judged ks ch None x b (length xs)) r xs ys (λ k. ⊥))) wide began in
       let parts = stopped (λ x. x) (judged ks ch None w b (length xs)) r e xs ys (λ p. ⊥) (λ p x. x) refl inner in
       (parts.1 ∙ ap Err (sym parts.2), parts.3)

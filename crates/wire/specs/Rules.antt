@@ -52,11 +52,11 @@ module _ {K H B : Type 0} (ks : Kinds K) (ch : Beats K H B) where
     pub few : length bs ≤ due w k (ch.start b)
     pub buffer : ys ≡ bytes_of w k (ch.start b) bs ++ drop (length (bytes_of w k (ch.start b) bs)) xs
 
-  -- a burst waits for its next beat, those before it being read
-  pub record HalfRead (w : Width) (k : K) (b : B) (bs : List B) (xs : List ℕ) (u : Part H) (ys : List ℕ) : Type 0 where
+  -- a burst u, of which `at u` has come, waits for its next beat, those before it being read
+  pub record HalfRead {U : Type 0} (at : U → Part H) (w : Width) (k : K) (b : B) (bs : List B) (xs : List ℕ) (u : U) (ys : List ℕ) : Type 0 where
     pub read : Read w k b bs xs ys
-    pub come : u ≡ part (head_of w k (ch.start b) bs) w (length bs)
-    pub mask : ch.mask u.head ≡ mask_of w (ch.start b) bs
+    pub come : at u ≡ part (head_of w k (ch.start b) bs) w (length bs)
+    pub mask : ch.mask (at u).head ≡ mask_of w (ch.start b) bs
     pub carries : ks.carries k ≡ true
     pub due : length bs < due w k (ch.start b)
     pub long : length ys ≡ length xs

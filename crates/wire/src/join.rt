@@ -1,5 +1,6 @@
 ghost use Rattle.std.specs.Prelude.{◌≡◌, ℕ, ◌+◌, ◌^◌, ◌<◌, List, [], ◌∷◌, length};
 ghost use Rattle.beat.specs.declared.width.Width.{Width};
+ghost use Rattle.beat.specs.Channel.{part};
 ghost use Rattle.wire.specs.Rules.{HalfRead};
 ghost use Rattle.wire.specs.Joins.{Ends, Joins, OnlyLegal, EveryLegal, Again};
 
@@ -49,7 +50,7 @@ fn finish<C: Channel>(
     buffer: &mut [u8],
 ) -> Result<Option<Joined<C::Head>>, Unread>
     requires { length rest.now + 1 < 2 ^ 64 }
-    ensures { (w : Width) (k : C.Kind) (b : C.Beat) (xs : List ℕ) → HalfRead C.Kind.kinds C.beats w k b (b ∷ []) xs burst buffer.old → Ends C.Kind.kinds C.beats w k b (b ∷ rest.now) xs result buffer.new }
+    ensures { (w : Width) (k : C.Kind) (b : C.Beat) (xs : List ℕ) → HalfRead C.Kind.kinds C.beats (λ u. part u.head u.width u.come) w k b (b ∷ []) xs burst buffer.old → Ends C.Kind.kinds C.beats w k b (b ∷ rest.now) xs result buffer.new }
 {
     let mut burst = burst;
     for (i, beat) in rest.iter().enumerate() {

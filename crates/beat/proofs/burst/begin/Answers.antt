@@ -1,7 +1,7 @@
 use Rattle.std.proofs.Common.{◌≡◌, false, length, None, sym, ◌∙◌, subst, rules}
 use Rattle.std.proofs.lemmas.Bool.{both_ways}
 use Rattle.beat.specs.declared.begun.Begun.TheVariants.{Whole}
-use Rattle.beat.specs.Channel.{Due, LanesRead, Taken}
+use Rattle.beat.specs.Channel.{part, Due, LanesRead, Taken}
 use Rattle.beat.proofs.Reading.{fit, carrying, due_first, first_room, first_whole, lanes_read, began_with}
 use Rattle.beat.proofs.Widths.{width_is}
 use Rattle.beat.proofs.burst.begin.Goals as goal
@@ -18,8 +18,8 @@ returns-then-not-has_data-clause-answer g c =
     let judged = sym c.in_ok-kind.ensures in
     let size = g.met.C.Kind.Kind.small k h.size (fit ks ch None w b (length xs) k judged).fits in
     let head : c.header.result ≡ h = search rules in
-    began_with ks ch c.args.width w b k xs (Whole c.with_mask.result) xs (sym c.in_ok-width.ensures) judged
-    (first_whole ks ch k w b xs c.with_mask.result c.whole_mask-mask.result (search rules) size (search rules) (search rules))
+    began_with ks ch (λ u. part u.head u.width u.come) c.args.width w b k xs (Whole c.with_mask.result) xs (sym c.in_ok-width.ensures) judged
+    (first_whole ks ch (λ u. part u.head u.width u.come) k w b xs c.with_mask.result c.whole_mask-mask.result (search rules) size (search rules) (search rules))
 
 pub returns-then-not-has_data-clause-lanes : goal.returns-then-not-has_data-clause-lanes
 returns-then-not-has_data-clause-lanes g c =
@@ -34,8 +34,11 @@ pub invariant_of-burst : goal.invariant_of-burst
 invariant_of-burst g c =
     let ks = g.C.Kind.Kind.kinds in
     let ch = g.C.Channel.beats in
-    subst (λ h. Due ks ch c.in_ok-width.width h 0) (sym c.start-head.ensures)
-    (due_first ks ch g.met.C.Kind.Kind.small g.met.C.Channel.laws c.in_ok-width.width c.args.beat (length c.args.buffer.now) c.in_ok-kind.kind (sym c.in_ok-kind.ensures) (search rules))
+    record {
+      due =
+          subst (λ h. Due ks ch c.in_ok-width.width h 0) (sym c.start-head.ensures)
+          (due_first ks ch g.met.C.Kind.Kind.small g.met.C.Channel.laws c.in_ok-width.width c.args.beat (length c.args.buffer.now) c.in_ok-kind.kind (sym c.in_ok-kind.ensures) (search rules));
+    }
 
 pub take_in-requires : goal.take_in-requires
 take_in-requires g c =
@@ -53,9 +56,9 @@ returns-clause-lanes g c =
     let k = c.in_ok-kind.kind in
     let judged = sym c.in_ok-kind.ensures in
     let some = sym c.if-not-has_data.ensures in
-    let taken = subst (λ h. Taken ks ch w h 0 b xs c.take_in.result ys) c.start-head.ensures (record { stands = c.take_in.ensures.stands; buffer = c.take_in.ensures.buffer }) in
+    let taken = subst (λ h. Taken ks ch (λ u. part u.head u.width u.come) w h 0 b xs c.take_in.result ys) c.start-head.ensures (record { stands = c.take_in.ensures.stands; buffer = c.take_in.ensures.buffer }) in
     λ _.
-    subst (λ m. LanesRead ks ch m (ch.start b) 0 b xs c.take_in.result ys) (sym (width_is c.args.width w (sym c.in_ok-width.ensures)))
-    (lanes_read ks ch g.met.C.Channel.laws w (ch.start b) 0 b xs c.take_in.result ys
+    subst (λ m. LanesRead ks ch (λ u. part u.head u.width u.come) m (ch.start b) 0 b xs c.take_in.result ys) (sym (width_is c.args.width w (sym c.in_ok-width.ensures)))
+    (lanes_read ks ch g.met.C.Channel.laws (λ u. part u.head u.width u.come) w (ch.start b) 0 b xs c.take_in.result ys
     (due_first ks ch g.met.C.Kind.Kind.small g.met.C.Channel.laws w b n k judged some)
     (first_room ks ch w b n k judged some) taken)

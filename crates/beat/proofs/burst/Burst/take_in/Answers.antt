@@ -8,18 +8,17 @@ use Rattle.beat.proofs.burst.Burst.take_in.Goals as goal
 
 pub joined-mask-requires-clause-room : goal.joined-mask-requires-clause-room
 joined-mask-requires-clause-room g c =
-    let u = c.self.inside in
-    let due = c.self.invariant in
+    let u = c.args.self in
     let h = g.C.Channel.beats.header u.head in
-    let s = shape u.width h.size h.address due.size due.aligned in
+    let s = shape u.width h.size h.address u.due.size u.due.aligned in
     let k : c.of-lanes.result.count ≡ per g.C.Kind.Kind.kinds g.C.Channel.beats u.width u.head = c.of-lanes.ensures.count ∙ ap (λ x. per_beat (width_bytes u.width) x.size) c.header-header.ensures in
-    omega (arith, beat_ends s u.come c.of-lanes.result.count due.due k, s.bytes)
+    omega (arith, beat_ends s u.come c.of-lanes.result.count u.due.due k, s.bytes)
 
 pub invariant_of-result : goal.invariant_of-result
 invariant_of-result g c =
     let ks = g.C.Kind.Kind.kinds in
     let ch = g.C.Channel.beats in
-    let u = c.self.inside in
+    let u = c.args.self in
     let after : c.with_mask-head.result ≡ head_after ks ch u.width u.head u.come c.args.beat = search rules in
     let more : u.come + 1 < beats ks ch u.width true u.head = search rules in
-    subst (λ h. Due ks ch u.width h (u.come + 1)) (sym after) (due_next ks ch g.met.C.Channel.laws u.width u.head u.come c.args.beat c.self.invariant more)
+    record { due = subst (λ h. Due ks ch u.width h (u.come + 1)) (sym after) (due_next ks ch g.met.C.Channel.laws u.width u.head u.come c.args.beat u.due more) }
