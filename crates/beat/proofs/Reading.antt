@@ -18,7 +18,7 @@ use Rattle.beat.specs.declared.header.Header.{Header}
 use Rattle.beat.specs.declared.width.Width.{Width}
 use Rattle.beat.specs.Begun.{UnlessRefused}
 use Rattle.beat.specs.Lanes.{beat_count, beat_bytes, beat_bits, in_lanes, per_beat, lane_byte, Sent, Received}
-use Rattle.beat.specs.Channel.{Beats, Laws, Right, Part, agree, same_header, more_mask, lane_of, per, beats, sent_bytes, heard, message_beat, LaidOut, same_head, admitted, judged, carries, Due, head_after, Stands, Taken, mask_read, LanesRead, First, Began}
+use Rattle.beat.specs.Channel.{Beats, Laws, Right, Part, agree, same_header, more_mask, lane_of, per, beats_in, sent_bytes, heard, message_beat, LaidOut, same_head, admitted, judged, brings_data, Due, head_after, Stands, Taken, mask_read, LanesRead, First, Began}
 use Rattle.beat.specs.Width.{width_bytes, width_of}
 use Rattle.beat.proofs.Lays.{bytes_sent, bits_sent, bytes_received, bits_received}
 use Rattle.beat.proofs.Masks.{grown}
@@ -30,6 +30,10 @@ agreed true true e = refl
 agreed false false e = refl
 agreed true false e = let z : ◌≡◌ {A = ℕ} 0 1 = cc in absurd (omega arith)
 agreed false true e = let z : ◌≡◌ {A = ℕ} 0 1 = cc in absurd (omega arith)
+
+pub agree_self : (x : Bool) → agree x x ≡ true
+agree_self true = refl
+agree_self false = refl
 
 -- equal in every field
 pub same_fields : (a b : Header) → same_header a b ≡ true → a ≡ b
@@ -85,7 +89,7 @@ module _ {K H B : Type 0} (ks : Kinds K) (ch : Beats K H B) where
         roomy = subst (λ x. length_of ks x h.size ≤ room) is (leb-true (length_of ks p h.size) room r.0);
       }
 
-  pub carrying : (h : H) (k : K) → ks.of (ch.header h).opcode (ch.header h).param ≡ Ok k → carries ks ch h ≡ ks.carries k
+  pub carrying : (h : H) (k : K) → ks.of (ch.header h).opcode (ch.header h).param ≡ Ok k → brings_data ks ch h ≡ ks.carries k
   carrying h k e = ap (λ r. elim r [ Ok p ↦ ks.carries p | Err x ↦ false ]) e
 
   -- the first beat of a message with data is due, and the buffer has room
@@ -121,7 +125,7 @@ module _ {K H B : Type 0} (ks : Kinds K) (ch : Beats K H B) where
       subst (λ x. 2 ^ x.size ≤ room) (sym same) (data_room k (ch.header (ch.start b)).size room some f.roomy)
 
   -- the next one is due unless that was the last
-  pub due_next : Laws ch → (w : Width) (h : H) (j : ℕ) (b : B) → Due ks ch w h j → j + 1 < beats ks ch w true h → Due ks ch w (head_after ks ch w h j b) (j + 1)
+  pub due_next : Laws ch → (w : Width) (h : H) (j : ℕ) (b : B) → Due ks ch w h j → j + 1 < beats_in ks ch w true h → Due ks ch w (head_after ks ch w h j b) (j + 1)
   due_next laws w h j b d more =
       let n = more_mask (lane_of ks ch w h) (per ks ch w h) (j * per ks ch w h) (ch.lane_mask b) (ch.mask h) in
       let same : ch.header h ≡ ch.header (head_after ks ch w h j b) = sym (laws.header_kept h n) in
@@ -172,7 +176,7 @@ module _ {K H B : Type 0} (ks : Kinds K) (ch : Beats K H B) where
   all_data k h n r some = some_long (ks.carries k) n (2 ^ h.size) r.long some
 
   -- the lanes of a beat that is cut
-  pub laid_out : Laws ch → (n : ℕ) (w : Width) (k : K) (h : H) (bytes : List ℕ) (j : ℕ) (b : B) → n ≡ width_bytes w → Shape (width_bytes w) (ch.header h).size (ch.header h).address → j < beats ks ch w true h → Each1 (λ x. x < 256) bytes → b ≡ message_beat ks ch w k h bytes j → LaidOut ks ch n h bytes j (Ok (Some b))
+  pub laid_out : Laws ch → (n : ℕ) (w : Width) (k : K) (h : H) (bytes : List ℕ) (j : ℕ) (b : B) → n ≡ width_bytes w → Shape (width_bytes w) (ch.header h).size (ch.header h).address → j < beats_in ks ch w true h → Each1 (λ x. x < 256) bytes → b ≡ message_beat ks ch w k h bytes j → LaidOut ks ch n h bytes j (Ok (Some b))
   laid_out laws n w k h bytes j b is s lt small e =
       let q = ch.header h in
       let v = width_bytes w in

@@ -71,8 +71,8 @@ module _ {K H B : Type 0} (ks : Kinds K) (ch : Beats K H B) where
   abbrev pub per : Width → H → ℕ
   per w h = per_beat (width_bytes w) (ch.header h).size
 
-  abbrev pub beats : Width → Bool → H → ℕ
-  beats w has_data h = beat_count has_data (width_bytes w) (ch.header h).size
+  abbrev pub beats_in : Width → Bool → H → ℕ
+  beats_in w has_data h = beat_count has_data (width_bytes w) (ch.header h).size
 
   -- the bytes that go over the bus: zeros in the place of denied ones
   abbrev pub sent_bytes : H → List ℕ → List ℕ
@@ -94,7 +94,7 @@ module _ {K H B : Type 0} (ks : Kinds K) (ch : Beats K H B) where
   cut_message n h bytes j =
       unless_refused (width_of n) (λ w.
       unless_refused (ch.checked h bytes) (λ k.
-      Ok (cond (nat_lt j (beats w (ks.carries k) h)) (Some (message_beat w k h bytes j)) None)))
+      Ok (cond (nat_lt j (beats_in w (ks.carries k) h)) (Some (message_beat w k h bytes j)) None)))
 
   -- the lane of each byte's address has its mask bit and the byte itself; other lanes, and a message without data, have 0
   abbrev pub LaidOut : ℕ → H → List ℕ → ℕ → Result (Option B) Refusal → Type 0
@@ -125,15 +125,15 @@ module _ {K H B : Type 0} (ks : Kinds K) (ch : Beats K H B) where
       unless_refused (placed ks h.opcode h.param h.size h.address) (λ k. admitted k first w b room)
 
   -- whether a head's opcode and param are those of messages with data
-  abbrev pub carries : H → Bool
-  carries h = elim (ks.of (ch.header h).opcode (ch.header h).param) [ Ok k ↦ ks.carries k | Err e ↦ false ]
+  abbrev pub brings_data : H → Bool
+  brings_data h = elim (ks.of (ch.header h).opcode (ch.header h).param) [ Ok k ↦ ks.carries k | Err e ↦ false ]
 
   -- beat j of a message with data is due, the mask of the bytes before it being known
   pub record Due (w : Width) (h : H) (j : ℕ) : Type 0 where
     pub size : (ch.header h).size ≤ 6
     pub aligned : (ch.header h).address % 2 ^ (ch.header h).size ≡ 0
-    pub carries : carries h ≡ true
-    pub due : j < beats w true h
+    pub carries : brings_data h ≡ true
+    pub due : j < beats_in w true h
     pub low : ch.mask h < 2 ^ (j * per w h)
 
   -- a head with the mask bits of beat j behind those that came before
@@ -143,8 +143,8 @@ module _ {K H B : Type 0} (ks : Kinds K) (ch : Beats K H B) where
 
   -- what stands once beat j is read: the message if it was the last, else a burst u, of which `at u` has come
   abbrev pub Stands : {U : Type 0} → (U → Part H) → Width → H → ℕ → B → Begun H U → Type 0
-  Stands at w h j b (Whole g) = (j + 1 ≡ beats w true h) × (g ≡ head_after w h j b)
-  Stands at w h j b (Half u) = (j + 1 < beats w true h) × (at u ≡ part (head_after w h j b) w (j + 1))
+  Stands at w h j b (Whole g) = (j + 1 ≡ beats_in w true h) × (g ≡ head_after w h j b)
+  Stands at w h j b (Half u) = (j + 1 < beats_in w true h) × (at u ≡ part (head_after w h j b) w (j + 1))
 
   -- a buffer after beat j
   abbrev pub buffer_with : Width → H → ℕ → B → List ℕ → List ℕ

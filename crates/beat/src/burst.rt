@@ -1,6 +1,6 @@
 ghost use Rattle.std.specs.Prelude.{◌≡◌, ◌≤◌, ◌^◌, true, length, IfOk};
 ghost use Rattle.beat.specs.Width.{width_bytes};
-ghost use Rattle.beat.specs.Channel.{part, heard, carries, Due, Stands, buffer_with, Began, Went, LanesRead};
+ghost use Rattle.beat.specs.Channel.{part, heard, brings_data, Due, Stands, buffer_with, Began, Went, LanesRead};
 
 use crate::begun::Begun;
 use crate::channel::Channel;
@@ -27,7 +27,7 @@ pub fn begin<C: Channel>(
     buffer: &mut [u8],
 ) -> Result<Begun<C::Head, Burst<C>>, Refusal>
     ensures answer { Began C.Kind.kinds C.beats (λ u. part u.head u.width u.come) width beat buffer.old result buffer.new }
-    ensures lanes { IfOk result (λ g. carries C.Kind.kinds C.beats (C.beats.start beat) ≡ true → LanesRead C.Kind.kinds C.beats (λ u. part u.head u.width u.come) width (C.beats.start beat) 0 beat buffer.old g buffer.new) }
+    ensures lanes { IfOk result (λ g. brings_data C.Kind.kinds C.beats (C.beats.start beat) ≡ true → LanesRead C.Kind.kinds C.beats (λ u. part u.head u.width u.come) width (C.beats.start beat) 0 beat buffer.old g buffer.new) }
 {
     let width = Width::try_from(width)?;
     let kind = judge::<C>(None, width, beat, buffer.len())?;
@@ -71,7 +71,7 @@ impl<C: Channel> Burst<C> {
         let header = C::header(head);
         let lanes = Lanes::of(width, header.size, header.address);
         lanes.join(heard::<C>(beat), come, buffer);
-        let mask = lanes.joined(C::mask(head), C::lane_mask(beat), come * lanes.count);
+        let mask = lanes.joined(C::mask(head), C::lane_mask(beat), come);
         let head = C::with_mask(head, mask);
         let come = come + 1;
         if come == lanes.beats(true) {

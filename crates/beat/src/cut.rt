@@ -26,7 +26,7 @@ pub fn cut<C: Channel>(
     if index >= lanes.beats(kind.has_data()) {
         return Ok(None);
     }
-    let mask = lanes.mask(C::mask(head), index * lanes.count);
+    let mask = lanes.mask(C::mask(head), index);
     let bytes = sent(lanes, header.denied, data, index);
     Ok(Some(C::beat(kind, head, mask, bytes)))
 }

@@ -7,8 +7,8 @@ use crate::width::Width;
 // How a message lies on the bus: its beats' active lanes, `count` of them from `first` on, and how many beats its data make.
 #[derive(Clone, Copy)]
 pub struct Lanes {
-    pub(crate) first: usize,
-    pub(crate) count: usize,
+    pub first: usize,
+    pub count: usize,
     beats: usize,
     ghost some: { 0 < count },
     ghost fits: { first + count ≤ 8 },
@@ -81,23 +81,24 @@ impl Lanes {
         self.unpack(lanes, &mut buffer[at..at + self.count]);
     }
 
-    // The lane mask of the part of a message's mask that begins at bit `at`.
+    // The lane mask of beat `index` of a message.
     #[tactic(auto, using(crate::proofs::Masks::masked, crate::proofs::Masks::masked_fits))]
-    pub(crate) fn mask(self, mask: u64, at: usize) -> u8
-        requires { at < 64 }
-        ensures { result ≡ mask / 2 ^ at % 2 ^ self.count * 2 ^ self.first }
+    pub(crate) fn mask(self, mask: u64, index: usize) -> u8
+        requires { index * self.count < 64 }
+        ensures { result ≡ mask / 2 ^ (index * self.count) % 2 ^ self.count * 2 ^ self.first }
     {
-        ((mask >> at & ones(self.count)) << self.first) as u8
+        ((mask >> (index * self.count) & ones(self.count)) << self.first) as u8
     }
 
-    // A message's mask, whose bits end at `at`, with those of a lane mask behind them.
+    // A message's mask, of which the bits before beat `index` have come, with those of its lane mask behind them.
     #[tactic(auto, using(crate::proofs::Masks::masked, std::proofs::lemmas::Nat::or_shifted))]
-    pub(crate) fn joined(self, mask: u64, lane_mask: u8, at: usize) -> u64
-        requires low { mask < 2 ^ at }
-        requires room { at + self.count ≤ 64 }
-        ensures { result ≡ lane_mask / 2 ^ self.first % 2 ^ self.count * 2 ^ at + mask }
+    pub(crate) fn joined(self, mask: u64, lane_mask: u8, index: usize) -> u64
+        requires low { mask < 2 ^ (index * self.count) }
+        requires room { index * self.count + self.count ≤ 64 }
+        ensures { result ≡ lane_mask / 2 ^ self.first % 2 ^ self.count * 2 ^ (index * self.count) + mask }
     {
-        ((lane_mask >> self.first) as u64 & ones(self.count)) << at | mask
+        let at = index * self.count;
+        (u64::from(lane_mask >> self.first) & ones(self.count)) << at | mask
     }
 
     // All of the active lanes.
@@ -112,7 +113,7 @@ impl Lanes {
     pub(crate) fn cover(self, lane_mask: u8) -> bool
         ensures { result ≡ nat_eq (lane_mask / 2 ^ self.first % 2 ^ self.count * 2 ^ self.first) lane_mask }
     {
-        self.mask((lane_mask >> self.first) as u64, 0) == lane_mask
+        self.mask(u64::from(lane_mask >> self.first), 0) == lane_mask
     }
 }
 

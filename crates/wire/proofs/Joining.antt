@@ -12,28 +12,12 @@ use Rattle.wire.specs.declared.joined.Joined.{Joined}
 use Rattle.wire.specs.declared.joined.Unread.{Unread}
 use Rattle.wire.specs.Rules.{Message, Messages, due, bytes_of, head_of, Read, cut_beats, Carries, Owes}
 use Rattle.wire.specs.Joins.{unread, Ends, EndsList, Joins, WholeRead, Found, OnlyLegal, EveryLegal, Again}
-use Rattle.wire.proofs.Laws.{some_due, brings_legal, brings_carried, Accepted, complete, counted, cut_carries}
+use Rattle.wire.proofs.Laws.{some_due, sound, Accepted, complete, counted, cut_carries}
 
 front : {B : Type 0} (n : ℕ) (b : B) (bs : List B) → 0 < n → take n (b ∷ bs) ≡ b ∷ take (n - 1) bs
 front n b bs some = let next : n ≡ suc (n - 1) = omega arith in ap (λ m. take m (b ∷ bs)) next
 
 module _ {K H B : Type 0} (ks : Kinds K) (ch : Beats K H B) (small : Small ks) (laws : Laws ch) (ms : Messages K H B) (owes : Owes ks ch ms) where
-  -- the message of beats that are read, b the first of all that are due
-  found_from : (n : ℕ) (w : Width) (k : K) (b : B) (cs l : List B) (xs ys : List ℕ) (j : Joined H) → width_of n ≡ Ok w → Read ks ch w k b (b ∷ cs) xs ys → length (b ∷ cs) ≡ due ks ch w k (ch.start b) → take j.beats l ≡ b ∷ cs → j.beats ≡ due ks ch w k (ch.start b) → j.head ≡ head_of ks ch w k (ch.start b) (b ∷ cs) → Found ks ch ms n l xs (Ok (Some j)) ys
-  found_from n w k b cs l xs ys j wide r all split count head =
-      let h = head_of ks ch w k (ch.start b) (b ∷ cs) in
-      let carried = brings_carried ks ch small laws ms owes w k b cs xs ys r all in
-      let beats : j.beats ≡ due ks ch w k h = count ∙ sym all ∙ carried.count in
-      record {
-        width = w;
-        kind = k;
-        message = record { head = h; bytes = bytes_of ks ch w k (ch.start b) (b ∷ cs) };
-        wide = wide;
-        legal = brings_legal ks ch small laws ms owes w k b cs xs ys r all;
-        carries = subst (λ x. Carries ks ch ms w k (record { head = h; bytes = bytes_of ks ch w k (ch.start b) (b ∷ cs) }) x) (sym split ∙ ap (λ m. take m l) beats) carried;
-        read = record { answer = λ i. Ok (Some (record { head = head i; beats = beats i })); buffer = r.buffer };
-      }
-
   found_in : (n : ℕ) (w : Width) (bs : List B) (xs : List ℕ) (j : Joined H) (ys : List ℕ) → width_of n ≡ Ok w → EndsList ks ch w bs xs (Ok (Some j)) ys → Found ks ch ms n bs xs (Ok (Some j)) ys
   found_in n w [] xs j ys wide h =
       let never = h.0 in
@@ -45,12 +29,23 @@ module _ {K H B : Type 0} (ks : Kinds K) (ch : Beats K H B) (small : Small ks) (
       let k = parts.0 in
       let e = parts.2 in
       let split = front j.beats b bs (omega (arith, some_due ks ch small w k b (length xs) parts.1, e.0)) in
-      found_from n w k b (take (j.beats - 1) bs) (b ∷ bs) xs ys j wide
-      (subst (λ cs. Read ks ch w k b cs xs ys) split e.2)
-      (ap length (sym split) ∙ length-take-le j.beats (b ∷ bs) e.1 ∙ e.0)
-      split
-      e.0
-      (e.3 ∙ ap (head_of ks ch w k (ch.start b)) split)
+      let all : length (b ∷ take (j.beats - 1) bs) ≡ due ks ch w k (ch.start b) = ap length (sym split) ∙ length-take-le j.beats (b ∷ bs) e.1 ∙ e.0 in
+      let s = sound ks ch small laws ms owes w k b (take (j.beats - 1) bs) xs ys (subst (λ cs. Read ks ch w k b cs xs ys) split e.2) all in
+      let beats : j.beats ≡ due ks ch w k s.message.head = e.0 ∙ s.count_is in
+      let head : j.head ≡ s.message.head = e.3 ∙ ap (head_of ks ch w k (ch.start b)) split ∙ s.head_is in
+      record {
+        width = w;
+        kind = k;
+        message = s.message;
+        wide = wide;
+        legal = s.legal;
+        carries = subst (λ x. Carries ks ch ms w k s.message x) (sym split ∙ ap (λ n. take n (b ∷ bs)) beats) s.carries;
+        read =
+            record {
+              answer = λ i. Ok (Some (record { head = head i; beats = beats i }));
+              buffer = e.2.buffer ∙ ap (λ zs. zs ++ drop (length zs) xs) (ap (bytes_of ks ch w k (ch.start b)) split ∙ s.bytes_are);
+            };
+      }
 
   pub only_legal : (n : ℕ) (bs : List B) (xs : List ℕ) (r : Result (Option (Joined H)) Unread) (ys : List ℕ) → Joins ks ch n bs xs r ys → OnlyLegal ks ch ms n bs xs r ys
   only_legal n bs xs r ys h j e =
@@ -80,10 +75,10 @@ module _ {K H B : Type 0} (ks : Kinds K) (ch : Beats K H B) (small : Small ks) (
 
     legal_read : (n : ℕ) (bs : List B) (xs : List ℕ) (r : Result (Option (Joined H)) Unread) (ys : List ℕ) → Joins ks ch n bs xs r ys → width_of n ≡ Ok w → Carries ks ch ms w k m (take (due ks ch w k m.head) bs) → length m.bytes ≤ length xs → WholeRead ks ch w k m xs r ys
     legal_read n [] xs r ys h wide c roomy =
-        absurd (omega (arith, c.count, counted ks ch laws ms owes w k m l, length-take {A = B} (due ks ch w k m.head) []))
+        let p = counted ks ch laws ms owes w k m l (take (due ks ch w k m.head) []) c in absurd (omega (arith, p.0, p.1, length-take {A = B} (due ks ch w k m.head) []))
     legal_read n (b ∷ bs) xs r ys h wide c roomy =
         let count = due ks ch w k m.head in
-        let split = front count b bs (counted ks ch laws ms owes w k m l) in
+        let split = front count b bs (counted ks ch laws ms owes w k m l (take count (b ∷ bs)) c).1 in
         let a : Accepted ks ch laws ms owes w k m l (length xs) b (take count (b ∷ bs)) =
         subst (λ cs. Accepted ks ch laws ms owes w k m l (length xs) b cs) (sym split) (complete ks ch laws ms owes w k m l (length xs) roomy b (take (count - 1) bs) (subst (λ cs. Carries ks ch ms w k m cs) split c)) in
         let inner : EndsList ks ch w (b ∷ bs) xs r ys = subst (λ v. UnlessRefused (unread 0) v r xs ys (λ x. EndsList ks ch x (b ∷ bs) xs r ys)) wide h in

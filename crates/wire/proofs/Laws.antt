@@ -10,7 +10,7 @@ use Rattle.std.proofs.lemmas.List.{take_all, replicate-append-replicate, nil_fro
 use Rattle.message.specs.Kind.{Kinds, Small, length_of, placed}
 use Rattle.message.specs.Request.{whole}
 use Rattle.beat.specs.declared.width.Width.{Width}
-use Rattle.beat.specs.Channel.{Beats, Laws, Right, lane_of, per, beats, heard, sent_bytes, judged, same_head, same_header}
+use Rattle.beat.specs.Channel.{Beats, Laws, Right, lane_of, per, beats_in, heard, sent_bytes, judged, same_head, same_header}
 use Rattle.beat.specs.Lanes.{per_beat, first_lane, beat_count, beat_bytes, beat_bits, lane_bytes, in_lanes}
 use Rattle.beat.specs.Width.{width_bytes}
 use Rattle.beat.proofs.Digits.{unpack_pack}
@@ -49,7 +49,7 @@ module _ {K H B : Type 0} (ks : Kinds K) (ch : Beats K H B) where
   heard_lanes h (c ∷ bs) d a =
       λ i. cond-false (ch.header (ch.start c)).denied 0 (ch.lanes c) (ap (λ x. x.denied) a.0 ∙ d) i ∷ heard_lanes h bs d a.1 i
 
-  some_beats : (w : Width) (h : H) (d : Bool) → Shape (width_bytes w) (ch.header h).size (ch.header h).address → 0 < beats ks ch w d h
+  some_beats : (w : Width) (h : H) (d : Bool) → Shape (width_bytes w) (ch.header h).size (ch.header h).address → 0 < beats_in ks ch w d h
   some_beats w h true s = s.beats
   some_beats w h false s = omega arith
 
@@ -91,14 +91,14 @@ module _ {K H B : Type 0} (ks : Kinds K) (ch : Beats K H B) where
     heads_all = All-weaker (λ c. judged ks ch (Some s) w c (length xs) ≡ Ok k) (λ c. ch.header (ch.start c) ≡ ch.header s) (λ c j. (one_fits c j).0) (b ∷ bs) r.accepted
 
     whole_beats : (d : Bool) → ks.carries k ≡ d → d ≡ true → length (b ∷ bs) * per ks ch w s ≡ 2 ^ (ch.header s).size
-    whole_beats d e t = ap (λ n. n * per ks ch w s) (all ∙ ap (λ x. beats ks ch w x s) (e ∙ t)) ∙ lies.whole
+    whole_beats d e t = ap (λ n. n * per ks ch w s) (all ∙ ap (λ x. beats_in ks ch w x s) (e ∙ t)) ∙ lies.whole
 
     own_all : All ks ch k s (lane_of ks ch w s) (per ks ch w s) (b ∷ bs)
     own_all =
         record {
           own = All-weaker (λ c. judged ks ch (Some s) w c (length xs) ≡ Ok k) (λ c. ch.own k (lane_of ks ch w s) (per ks ch w s) c ≡ Ok tt) (λ c j. (one_fits c j).1) (b ∷ bs) r.accepted;
           with_data = λ d. whole_beats true d refl;
-          without = λ d. (all ∙ ap (λ x. beats ks ch w x s) d, omega arith);
+          without = λ d. (all ∙ ap (λ x. beats_in ks ch w x s) d, omega arith);
         }
 
     long_if : (d : Bool) → ks.carries k ≡ d → length (bytes_of ks ch w k s (b ∷ bs)) ≡ cond d (2 ^ (ch.header s).size) 0
@@ -143,6 +143,28 @@ module _ {K H B : Type 0} (ks : Kinds K) (ch : Beats K H B) where
               (ap (λ m. drop m brings.bytes) (zero-mul n) ∙ cond-true (ks.carries k) _ [] d ∙ ap (payload f n) (heard_lanes s (b ∷ bs) plain heads_all)));
         }
 
+  -- a legal message of which beats are all
+  pub record Source (ms : Messages K H B) (w : Width) (k : K) (b : B) (bs : List B) : Type 0 where
+    pub message : Message H
+    pub legal : ms.Legal k message
+    pub carries : Carries ks ch ms w k message bs
+    pub count_is : due ks ch w k (ch.start b) ≡ due ks ch w k message.head
+    pub head_is : head_of ks ch w k (ch.start b) bs ≡ message.head
+    pub bytes_are : bytes_of ks ch w k (ch.start b) bs ≡ message.bytes
+
+  -- what beats bring, of which none is refused and none is missing, is a legal message
+  pub sound : Small ks → Laws ch → (ms : Messages K H B) → Owes ks ch ms → (w : Width) (k : K) (b : B) (bs : List B) (xs ys : List ℕ) → Read ks ch w k b (b ∷ bs) xs ys → length (b ∷ bs) ≡ due ks ch w k (ch.start b) → Source ms w k b (b ∷ bs)
+  sound small laws ms owes w k b bs xs ys r all =
+      let carried = brings_carried small laws ms owes w k b bs xs ys r all in
+      record {
+        message = message (head_of ks ch w k (ch.start b) (b ∷ bs)) (bytes_of ks ch w k (ch.start b) (b ∷ bs));
+        legal = brings_legal small laws ms owes w k b bs xs ys r all;
+        carries = carried;
+        count_is = sym all ∙ carried.count;
+        head_is = refl;
+        bytes_are = refl;
+      }
+
   -- the beats of a legal message are not refused, and bring it
   module _ (laws : Laws ch) (ms : Messages K H B) (owes : Owes ks ch ms) (w : Width) (k : K) (m : Message H) (l : ms.Legal k m) where
     right_there : Right ks k (ch.header m.head) (length m.bytes)
@@ -173,13 +195,13 @@ module _ {K H B : Type 0} (ks : Kinds K) (ch : Beats K H B) where
 
     carried_whole : (cs : List B) → ks.carries k ≡ true → Carries ks ch ms w k m cs → length cs * per ks ch w m.head ≡ 2 ^ (ch.header m.head).size
     carried_whole cs d c =
-        ap (λ n. n * per ks ch w m.head) (c.count ∙ ap (λ t. beats ks ch w t m.head) d) ∙ lies_there.whole
+        ap (λ n. n * per ks ch w m.head) (c.count ∙ ap (λ t. beats_in ks ch w t m.head) d) ∙ lies_there.whole
 
     carried_room : (cs : List B) (d : Bool) → ks.carries k ≡ d → Carries ks ch ms w k m cs → (0 + length cs) * per ks ch w m.head ≤ 2 ^ (ch.header m.head).size
     carried_room cs true d c =
         omega (arith, carried_whole cs d c, ap (λ n. n * per ks ch w m.head) (zero-add (length cs)))
     carried_room cs false d c =
-        let one : 0 + length cs ≡ 1 = zero-add (length cs) ∙ c.count ∙ ap (λ t. beats ks ch w t m.head) d in
+        let one : 0 + length cs ≡ 1 = zero-add (length cs) ∙ c.count ∙ ap (λ t. beats_in ks ch w t m.head) d in
         omega (arith, ap (λ n. n * per ks ch w m.head) one, one-mul (per ks ch w m.head))
 
     start_is : (b : B) (cs : List B) → Carries ks ch ms w k m (b ∷ cs) → (d : Bool) → (ch.header m.head).denied ≡ d → ch.start b ≡ ch.with_mask m.head 0
@@ -253,9 +275,9 @@ module _ {K H B : Type 0} (ks : Kinds K) (ch : Beats K H B) where
           bytes_are = bytes_brought b bs (ks.carries k) refl c;
         }
 
-    -- a legal message has at least one beat
-    pub counted : 0 < due ks ch w k m.head
-    counted = some_beats w m.head (ks.carries k) lies_there
+    -- it has as many beats as it should, and at least one
+    pub counted : (bs : List B) → Carries ks ch ms w k m bs → (length bs ≡ due ks ch w k m.head) × (0 < due ks ch w k m.head)
+    counted bs c = (c.count, some_beats w m.head (ks.carries k) lies_there)
 
     -- the cutter's beats are its own
     cut_length : (j n : ℕ) → length (cut_from ks ch w k m j n) ≡ n
@@ -305,6 +327,6 @@ module _ {K H B : Type 0} (ks : Kinds K) (ch : Beats K H B) where
           first = cut_first 0 n;
           masks = cut_masks 0 n;
           bytes = λ d granted.
-              let all : (0 + n) * c ≡ 2 ^ (ch.header m.head).size = ap (λ x. x * c) (zero-add n ∙ ap (λ t. beats ks ch w t m.head) d) ∙ lies_there.whole in
+              let all : (0 + n) * c ≡ 2 ^ (ch.header m.head).size = ap (λ x. x * c) (zero-add n ∙ ap (λ t. beats_in ks ch w t m.head) d) ∙ lies_there.whole in
               cut_bytes 0 n small granted (omega (arith, all, long_there d));
         }

@@ -11,19 +11,15 @@ use Rattle.beat.specs.declared.begun.Begun.TheVariants.{Whole, Half}
 use Rattle.beat.specs.declared.header.Header.{Header}
 use Rattle.beat.specs.declared.width.Width.{Width}
 use Rattle.beat.specs.Begun.{UnlessRefused}
-use Rattle.beat.specs.Channel.{Beats, Laws, Part, part, agree, same_header, lane_of, per, beats, heard, judged, head_after, more_mask, buffer_with, Taken, First, Began, Went}
+use Rattle.beat.specs.Channel.{Beats, Laws, Part, part, same_header, lane_of, per, beats_in, heard, judged, head_after, more_mask, buffer_with, Taken, First, Began, Went}
 use Rattle.beat.specs.Lanes.{put, beat_count, per_beat, first_lane}
 use Rattle.beat.specs.Width.{width_bytes, width_of}
-use Rattle.beat.proofs.Reading.{fit, same_fields}
+use Rattle.beat.proofs.Reading.{agree_self, fit, same_fields}
 use Rattle.beat.proofs.Verdicts.{carried_on, stopped}
 use Rattle.wire.specs.Beats.{payload, joined_mask}
 use Rattle.wire.specs.Payloads.{put_payload}
 use Rattle.wire.specs.Bits.{mask_push}
 use Rattle.wire.specs.Rules.{due, bytes_of, mask_of, head_of, Read, HalfRead}
-
-pub agree_self : (x : Bool) → agree x x ≡ true
-agree_self true = refl
-agree_self false = refl
 
 pub same_self : (h : Header) → same_header h h ≡ true
 same_self h =
@@ -65,8 +61,8 @@ module _ {K H B : Type 0} (ks : Kinds K) (ch : Beats K H B) (laws : Laws ch) (w 
   head_is : (bs : List B) → head_of ks ch w k s bs ≡ ch.with_mask s (mask_of ks ch w s bs)
   head_is bs = ap (ch.with_mask s) (cond-true (ks.carries k) (mask_of ks ch w s bs) (whole (ch.header s).size) d)
 
-  count_is : due ks ch w k s ≡ beats ks ch w true s
-  count_is = ap (λ t. beats ks ch w t s) d
+  count_is : due ks ch w k s ≡ beats_in ks ch w true s
+  count_is = ap (λ t. beats_in ks ch w t s) d
 
   -- the buffer with one beat more
   buffer_more : (bs : List B) (c : B) (xs ys zs : List ℕ) → ys ≡ bytes_of ks ch w k s bs ++ drop (length (bytes_of ks ch w k s bs)) xs → zs ≡ put (lane_of ks ch w s) (per ks ch w s) (length bs) (heard ks ch c) ys → zs ≡ bytes_of ks ch w k s (bs ++ c ∷ []) ++ drop (length (bytes_of ks ch w k s (bs ++ c ∷ []))) xs
@@ -151,7 +147,7 @@ module _ {K H B : Type 0} (ks : Kinds K) (ch : Beats K H B) (laws : Laws ch) {U 
       read_on ks ch laws w k b d [] b (ch.start b) (sym (laws.unset b)) (laws.unmasked b) at xs xs ys g long (none_read w k b xs d first) j taken
   first_read w k b xs g ys long first j false d f =
       let both : (g ≡ Whole (ch.with_mask (ch.start b) (whole (ch.header (ch.start b)).size))) × (ys ≡ xs) = rw d at f in
-      let one : due ks ch w k (ch.start b) ≡ 1 = ap (λ t. beats ks ch w t (ch.start b)) d in
+      let one : due ks ch w k (ch.start b) ≡ 1 = ap (λ t. beats_in ks ch w t (ch.start b)) d in
       let nil : bytes_of ks ch w k (ch.start b) (b ∷ []) ≡ [] = cond-false (ks.carries k) _ [] d in
       subst (λ x. Reached ks ch at w k b (b ∷ []) xs x ys) (sym both.0) (
         sym one,

@@ -13,13 +13,13 @@ use Rattle.message.specs.declared.request.RequestHead.{RequestHead}
 use Rattle.message.specs.Kind.{placed}
 use Rattle.message.specs.Operation.{has_data}
 use Rattle.message.specs.Request.{Request, request, Legal, operation_kinds, partial, whole}
-use Rattle.message.proofs.Judged.{legal_placed, legal_below, legal_full, legal_long, legal_from}
-use Rattle.message.proofs.Placed.{no_rest}
+use Rattle.message.proofs.Judged.{legal_placed, legal_below, legal_full, legal_from}
 use Rattle.beat.specs.declared.request.RequestBeat.{RequestBeat}
 use Rattle.beat.specs.Channel.{Right}
 use Rattle.beat.specs.Lanes.{beat_bits, active_lanes}
 use Rattle.beat.specs.Request.{request_beats, request_header, head_of, with_mask, lane_mask_fits}
 use Rattle.beat.proofs.Masks.{part_again}
+use Rattle.beat.proofs.Requests.{legal_right}
 use Rattle.wire.specs.Beats.{joined_mask, HoldMask}
 use Rattle.wire.specs.Bits.{held_mask, mask_below, mask_full, whole_bits, held_whole}
 use Rattle.wire.specs.Rules.{Messages, All, Owes}
@@ -49,9 +49,6 @@ passed false e h = let z : ◌≡◌ {A = ℕ} 0 1 = cc in absurd (omega arith)
 
 -- what a legal request says
 module _ (o : Operation) (q : Request) (l : Legal o q) where
-  right : Right operation_kinds o (request_header q.head) (length q.bytes)
-  right = record { size = l.size; aligned = no_rest q.head.address q.head.size l.multiple; long = legal_long q o l }
-
   -- the mask of one without data is whole
   mask_is : (d : Bool) → has_data o ≡ d → cond (has_data o) q.head.mask (whole q.head.size) ≡ q.head.mask
   mask_is true d = cond-true (has_data o) q.head.mask (whole q.head.size) d
@@ -136,7 +133,7 @@ module _ (o : Operation) (h : RequestHead) (f k : ℕ) (bs : List RequestBeat) (
 pub request_owes : Owes operation_kinds request_beats request_messages
 request_owes =
     record {
-      right = λ o m l. right o (request m.head m.bytes) l;
+      right = λ o m l. legal_right o (request m.head m.bytes) l;
       place = λ o m l. legal_placed (request m.head m.bytes) o l;
       zeros = λ o m l e. absurd (false≢true e);
       below = λ o m l. legal_below (request m.head m.bytes) o l;

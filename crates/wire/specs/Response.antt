@@ -1,5 +1,5 @@
 -- Channel D: responses over the bus, each beat with what travels beside it.
-use Rattle.std.specs.Prelude.{◌≡◌, ℕ, ◌+◌, ◌^◌, Bool, true, false, cond, ◌&&◌, List, [], ◌∷◌, map, length, replicate, Ok, Err, refl}
+use Rattle.std.specs.Prelude.{◌≡◌, ℕ, ◌+◌, ◌^◌, true, false, cond, ◌&&◌, List, [], ◌∷◌, map, length, replicate, Ok, Err, refl}
 use Rattle.std.proofs.Common.{sym, ap, ◌∙◌}
 use Rattle.std.proofs.lemmas.Bool.{cond-true, cond-false}
 use Rattle.std.proofs.lemmas.Nat.{pow_pos}
@@ -15,6 +15,7 @@ use Rattle.beat.specs.declared.response.Sideband.{Sideband}
 use Rattle.beat.specs.Channel.{Right, agree}
 use Rattle.beat.specs.Response.{response_beats, response_header, response_beat, beside, head_of, corrupt_fits, response_laws}
 use Rattle.beat.proofs.Reading.{agreed}
+use Rattle.beat.proofs.Reading.{agree_self}
 use Rattle.wire.specs.Beats.{HoldMask}
 use Rattle.wire.specs.Request.{passed}
 use Rattle.wire.specs.Rules.{Messages, Owes}
@@ -30,10 +31,6 @@ response_messages =
       Legal = λ k m. LegalResponse k (response m.head m.bytes);
       Fits = λ k h b. b.0.corrupt ≡ (h.denied && response_has_data k);
     }
-
-agree_self : (x : Bool) → agree x x ≡ true
-agree_self true = refl
-agree_self false = refl
 
 -- corrupt is right by the beat's own denied exactly where it is by that of the head
 fitting : (k : ResponseOpcode) (h : ResponseHead) (b : Beat) → corrupt_fits k b.0 ≡ true → response_header (head_of b.0 b.1) ≡ response_header h → b.0.corrupt ≡ (h.denied && response_has_data k)

@@ -4,7 +4,7 @@ use Rattle.std.specs.List.{AllByRecursion}
 use Rattle.message.specs.Kind.{Kinds, placed}
 use Rattle.message.specs.Request.{whole}
 use Rattle.beat.specs.declared.width.Width.{Width}
-use Rattle.beat.specs.Channel.{Beats, Right, Part, part, lane_of, per, beats, heard, message_beat, judged}
+use Rattle.beat.specs.Channel.{Beats, Right, Part, part, lane_of, per, beats_in, heard, message_beat, judged}
 use Rattle.beat.specs.Lanes.{beat_bits}
 use Rattle.wire.specs.Beats.{payload, joined_mask, HoldBytes, HoldMask}
 
@@ -29,7 +29,7 @@ Leads P (b ∷ bs) = P b
 module _ {K H B : Type 0} (ks : Kinds K) (ch : Beats K H B) where
   -- how many beats a message has
   abbrev pub due : Width → K → H → ℕ
-  due w k h = beats ks ch w (ks.carries k) h
+  due w k h = beats_in ks ch w (ks.carries k) h
 
   -- the bytes that beats bring; denied data are zeros
   abbrev pub bytes_of : Width → K → H → List B → List ℕ

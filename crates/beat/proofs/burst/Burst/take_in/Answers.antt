@@ -1,7 +1,7 @@
 use Rattle.std.proofs.Common.{◌≡◌, ◌+◌, ◌<◌, true, sym, ap, ◌∙◌, subst, arith, rules}
 use Rattle.beat.specs.Lanes.{per_beat}
 use Rattle.beat.specs.Width.{width_bytes}
-use Rattle.beat.specs.Channel.{per, beats, head_after, Due}
+use Rattle.beat.specs.Channel.{per, beats_in, head_after, Due}
 use Rattle.beat.proofs.Reading.{due_next}
 use Rattle.beat.proofs.Widths.{shape, beat_ends}
 use Rattle.beat.proofs.burst.Burst.take_in.Goals as goal
@@ -20,5 +20,5 @@ invariant_of-result g c =
     let ch = g.C.Channel.beats in
     let u = c.args.self in
     let after : c.with_mask-head.result ≡ head_after ks ch u.width u.head u.come c.args.beat = search rules in
-    let more : u.come + 1 < beats ks ch u.width true u.head = search rules in
+    let more : u.come + 1 < beats_in ks ch u.width true u.head = search rules in
     record { due = subst (λ h. Due ks ch u.width h (u.come + 1)) (sym after) (due_next ks ch g.met.C.Channel.laws u.width u.head u.come c.args.beat u.due more) }
