@@ -48,8 +48,8 @@ impl Kind for ResponseOpcode {
     }
 }
 
-// Why a request was denied, at which address, and by which agent: all 0 where it was not. Causes are numbers that each
-// agent gives a meaning of its own.
+// Why a request was denied, at which address, and by which agent: all 0 where it was not. The cause is a
+// number: whatever comes beside a response is taken as it is.
 #[derive(Clone, Copy)]
 pub struct Denial {
     pub cause: u8,
