@@ -20,7 +20,7 @@ pub struct Burst<C: Channel> {
     ghost due: { Due C.Kind.kinds C.beats width head come },
 }
 
-// Reads a message's first beat, with its data to the front of `buffer`.
+// Reads a message's first beat, with its data to the front of `buffer`. The width is a number, as in `cut`.
 pub fn begin<C: Channel>(
     beat: C::Beat,
     width: u8,

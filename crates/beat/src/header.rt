@@ -2,6 +2,7 @@
 // themselves: callers build them, and name them as the bus does.
 #[derive(Clone, Copy, PartialEq)]
 pub struct Header {
+    // Opcode and param are numbers, as in the heads and beats that are compared by it.
     pub opcode: u8,
     pub param: u8,
     pub size: u8,

@@ -95,7 +95,7 @@ impl Operation {
     }
 }
 
-// The operation's name in the specification, with its param's.
+// The operation's name in the specification, with its param's. By hand: std derives no `Display`.
 impl fmt::Display for Operation {
     fn fmt<W: fmt::Write>(&self, f: &mut fmt::Formatter<W>) -> fmt::Result {
         f.pad(name(*self))

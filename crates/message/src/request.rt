@@ -9,6 +9,7 @@ use crate::refusal::Refusal;
 // the mask belongs to byte i. The data stand apart: every caller has them in a buffer of its own, as owner or borrower.
 #[derive(Clone, Copy)]
 pub struct RequestHead {
+    // Opcode and param may be any number: a wrong one is refused by its number, and an enum could not hold it.
     pub opcode: u8,
     pub param: u8,
     pub size: u8,

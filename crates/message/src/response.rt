@@ -69,6 +69,7 @@ impl Denial {
 // not an `Option`: that could not hold a head that is not denied and has a denial, and so would ask more of callers.
 #[derive(Clone, Copy)]
 pub struct ResponseHead {
+    // Opcode and param may be any number, as those of a request, and the data stand apart, as those of a request.
     pub opcode: u8,
     pub param: u8,
     pub size: u8,

@@ -59,6 +59,7 @@ pub fn byte_pairs(heap: Global, word: &[u8]) -> Result<Option<Vec<u8>>, AllocErr
     let mut bytes = vec![in heap; 0; word.len() / 2]?;
     match hex::decode_to_slice(word, &mut bytes) {
         Ok(()) => Ok(Some(bytes)),
+        // A `match`, since it says plainly that whatever is wrong with the word, it has no bytes.
         Err(_) => Ok(None),
     }
 }

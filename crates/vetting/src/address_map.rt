@@ -14,6 +14,7 @@ pub enum Region {
     Mailbox,
 }
 
+// By hand: std derives no `Display`.
 impl fmt::Display for Region {
     ghost output = { λ region. Some (name_of region) };
 
