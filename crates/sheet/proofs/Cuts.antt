@@ -1,10 +1,9 @@
 -- How the code cuts a text into lines, and a line into its words.
-use Rattle.std.proofs.Common.{◌≡◌, ℕ, ◌-◌, ◌<◌, ◌≤◌, Bool, true, false, not, cond, eqb, ltb, List, [], ◌∷◌, length, map, take, Option, Some, None, unwrap_or, sym, refl, ap, ◌∙◌, one-add, ne_eqb, arith, Bor, suc, subst}
-use Rattle.std.specs.Option.{MatchOption, option_copied}
-use Rattle.std.specs.List.{slice_get, onto_first, position_or_len, slice_split}
-use Rattle.sheet.specs.Text.{line_feed, comment}
+use Rattle.std.proofs.Common.{◌≡◌, ℕ, ◌<◌, ◌≤◌, Bool, true, false, not, cond, ltb, List, [], ◌∷◌, ◌++◌, length, take, drop, filter, Some, None, unwrap_or, refl, ap, ◌∙◌, one-add, arith}
+use Rattle.std.specs.List.{onto_first, position_or_len, slice_split}
+use Rattle.sheet.specs.Text.{line_feed, blank, comment}
 use Rattle.sheet.specs.Lines.{lines_of}
-use Rattle.sheet.specs.Words.{said, some}
+use Rattle.sheet.specs.Words.{said, pieces, some, runs}
 
 -- a line ends where its comment begins
 pub said_is : (bs : List ℕ) → said bs ≡ take (position_or_len comment bs) bs
@@ -19,84 +18,79 @@ said_is (b ∷ bs) = by (comment b) refl (said_is bs)
 pub place_found : (n len : ℕ) → n ≤ len → unwrap_or (cond (ltb n len) (Some n) None) len ≡ n
 place_found n len h = grind arith
 
--- a piece that is not empty has a byte
-pub some_is : (piece : List ℕ) → not (eqb (length piece) 0) ≡ some piece
-some_is [] = refl
-some_is (b ∷ bs) = rw (ne_eqb (length (b ∷ bs)) 0 (λ e. omega (arith, e))) refl
-
--- pieces without the last of them where that is empty
-abbrev pub trimmed : List (List ℕ) → List (List ℕ)
-trimmed [] = []
-trimmed (piece ∷ []) = cond (some piece) (piece ∷ []) []
-trimmed (piece ∷ next ∷ pieces) = piece ∷ trimmed (next ∷ pieces)
-
--- a line feed more
-ended : (ps : List (List ℕ)) → 0 < length ps → trimmed ([] ∷ ps) ≡ [] ∷ trimmed ps
-ended [] h = absurd (omega arith)
-ended (p ∷ ps) h = refl
-
--- another byte more
-longer : (b : ℕ) (ps : List (List ℕ)) → trimmed (onto_first b ps) ≡ onto_first b (trimmed ps)
-longer b [] = refl
-longer b ([] ∷ []) = refl
-longer b ((c ∷ cs) ∷ []) = refl
-longer b (p ∷ q ∷ ps) = refl
-
-split_some : (p : ℕ → Bool) (bs : List ℕ) → 0 < length (slice_split p bs)
-split_some p [] = omega arith
-split_some p (b ∷ bs) = by (p b) refl (slice_split p bs)
-  where
-    onto : (ps : List (List ℕ)) → 0 < length (onto_first b ps)
-    onto [] = omega arith
-    onto (q ∷ qs) = omega arith
-
-    by : (t : Bool) → p b ≡ t → (ps : List (List ℕ)) → 0 < length (cond t ([] ∷ ps) (onto_first b ps))
-    by true e ps = omega arith
-    by false e ps = onto ps
-
--- the lines of a text are its pieces between line feeds, but for an empty last one
-pub lines_are : (text : List ℕ) → trimmed (slice_split line_feed text) ≡ lines_of text
+pub no_lines : (text : List ℕ) → length text ≡ 0 → lines_of text ≡ []
 unfolding lines_of
-lines_are [] = refl
-lines_are (b ∷ bs) = by (line_feed b) refl (lines_are bs)
+no_lines [] h = refl
+no_lines (b ∷ bs) h = absurd (omega arith)
+
+-- the lines of a text that ends at a line feed are the pieces before it
+pub lines_ended : (bs : List ℕ) (b : ℕ) → line_feed b ≡ true → lines_of (bs ++ b ∷ []) ≡ slice_split line_feed bs
+unfolding lines_of
+lines_ended [] b h = rw h refl
+lines_ended (c ∷ bs) b h = ap (λ ls. cond (line_feed c) ([] ∷ ls) (onto_first c ls)) (lines_ended bs b h)
+
+-- those of one that ends at another byte are its pieces
+pub lines_open : (bs : List ℕ) (b : ℕ) → line_feed b ≡ false → lines_of (bs ++ b ∷ []) ≡ slice_split line_feed (bs ++ b ∷ [])
+unfolding lines_of
+lines_open [] b h = rw h refl
+lines_open (c ∷ bs) b h = ap (λ ls. cond (line_feed c) ([] ∷ ls) (onto_first c ls)) (lines_open bs b h)
+
+-- the pieces after the first
+abbrev later : List ℕ → List (List ℕ)
+later [] = []
+later (b ∷ bs) = cond (blank b) (pieces bs) (later bs)
+
+abbrev pub past_blanks : List ℕ → List ℕ
+past_blanks bs = drop (position_or_len (λ b. not (blank b)) bs) bs
+
+abbrev pub word_length : List ℕ → ℕ
+word_length bs = position_or_len blank bs
+
+pieces_are : (bs : List ℕ) → pieces bs ≡ take (word_length bs) bs ∷ later bs
+pieces_are [] = refl
+pieces_are (b ∷ bs) = by (blank b) refl (pieces_are bs)
   where
-    by : (t : Bool) → line_feed b ≡ t → trimmed (slice_split line_feed bs) ≡ lines_of bs → trimmed (slice_split line_feed (b ∷ bs)) ≡ lines_of (b ∷ bs)
-    by true e on = rw e (ended (slice_split line_feed bs) (split_some line_feed bs) ∙ ap (λ ls. [] ∷ ls) on)
-    by false e on = rw e (longer b (slice_split line_feed bs) ∙ ap (onto_first b) on)
+    by : (t : Bool) → blank b ≡ t → pieces bs ≡ take (word_length bs) bs ∷ later bs → pieces (b ∷ bs) ≡ take (word_length (b ∷ bs)) (b ∷ bs) ∷ later (b ∷ bs)
+    by true e on = rw e refl
+    by false e on = rw (e, one-add) (ap (onto_first b) on)
 
--- whether the last of the pieces is there and empty
-abbrev pub ends_empty : List (Bor (List ℕ)) → Bool
-ends_empty [] = false
-ends_empty (piece ∷ []) = eqb (length piece.now) 0
-ends_empty (piece ∷ next ∷ pieces) = ends_empty (next ∷ pieces)
-
-one_less : (n : ℕ) → suc (suc n) - 1 ≡ suc (suc n - 1)
-one_less n = omega arith
-
-last_piece : (pieces : List (Bor (List ℕ))) → MatchOption (slice_get pieces (length pieces - 1)) (ends_empty pieces ≡ false) (λ x. ends_empty pieces ≡ eqb (length x.now) 0)
-last_piece [] = refl
-last_piece (piece ∷ []) = refl
-last_piece (piece ∷ next ∷ pieces) = rw (one_less (length pieces)) (last_piece (next ∷ pieces))
-
--- the test of the last piece
-pub is_last_empty : (pieces : List (Bor (List ℕ))) (last : Option (Bor (Bor (List ℕ)))) (b : Bool) → option_copied last ≡ slice_get pieces (length pieces - 1) → MatchOption last (b ≡ false) (λ x. b ≡ eqb (length x.now.now) 0) → b ≡ ends_empty pieces
-is_last_empty pieces last b at h = by last h (subst (λ o. MatchOption o (ends_empty pieces ≡ false) (λ x. ends_empty pieces ≡ eqb (length x.now) 0)) (sym at) (last_piece pieces))
+later_are : (bs : List ℕ) → filter some (later bs) ≡ runs (drop (word_length bs) bs)
+unfolding runs
+later_are [] = refl
+later_are (b ∷ bs) = by (blank b) refl (later_are bs)
   where
-    by : (last : Option (Bor (Bor (List ℕ)))) → MatchOption last (b ≡ false) (λ x. b ≡ eqb (length x.now.now) 0) → MatchOption (option_copied last) (ends_empty pieces ≡ false) (λ x. ends_empty pieces ≡ eqb (length x.now) 0) → b ≡ ends_empty pieces
-    by None h e = h ∙ sym e
-    by (Some x) h e = h ∙ sym e
+    by : (t : Bool) → blank b ≡ t → filter some (later bs) ≡ runs (drop (word_length bs) bs) → filter some (later (b ∷ bs)) ≡ runs (drop (word_length (b ∷ bs)) (b ∷ bs))
+    by true e on = rw (e, e) refl
+    by false e on = rw (e, one-add) on
 
--- the pieces without the last of them where that is empty
-pub last_taken : (pieces : List (Bor (List ℕ))) → cond (ends_empty pieces) (map (λ x. x.now) (take (length pieces - 1) pieces)) (map (λ x. x.now) pieces) ≡ trimmed (map (λ x. x.now) pieces)
-last_taken [] = refl
-last_taken (piece ∷ []) = lone piece.now
+pub no_runs : (bs : List ℕ) → length bs ≡ 0 → runs bs ≡ []
+unfolding runs
+no_runs [] h = refl
+no_runs (b ∷ bs) h = absurd (omega arith)
+
+pub skipped : (bs : List ℕ) → runs bs ≡ runs (past_blanks bs)
+unfolding runs
+skipped [] = refl
+skipped (b ∷ bs) = by (blank b) refl (skipped bs)
   where
-    lone : (p : List ℕ) → cond (eqb (length p) 0) [] (p ∷ []) ≡ cond (some p) (p ∷ []) []
-    lone [] = refl
-    lone (b ∷ bs) = rw (ne_eqb (length (b ∷ bs)) 0 (λ e. omega (arith, e))) refl
-last_taken (piece ∷ next ∷ pieces) =
-    rw (one_less (length pieces)) (front (ends_empty (next ∷ pieces)) _ _ ∙ ap (λ ps. piece.now ∷ ps) (last_taken (next ∷ pieces)))
+    by : (t : Bool) → blank b ≡ t → runs bs ≡ runs (past_blanks bs) → runs (b ∷ bs) ≡ runs (past_blanks (b ∷ bs))
+    by true e on = rw (e, one-add) on
+    by false e on = rw (e, e) refl
+
+-- past its blanks a text is at its end or at a word
+pub at_word : (bs : List ℕ) → 0 < length (past_blanks bs) → 0 < word_length (past_blanks bs)
+at_word [] = λ h. absurd (omega arith)
+at_word (b ∷ bs) = by (blank b) refl (at_word bs)
   where
-    front : (t : Bool) (xs ys : List (List ℕ)) → cond t (piece.now ∷ xs) (piece.now ∷ ys) ≡ piece.now ∷ cond t xs ys
-    front true xs ys = refl
-    front false xs ys = refl
+    by : (t : Bool) → blank b ≡ t → (0 < length (past_blanks bs) → 0 < word_length (past_blanks bs)) → 0 < length (past_blanks (b ∷ bs)) → 0 < word_length (past_blanks (b ∷ bs))
+    by true e on = rw (e, one-add) on
+    by false e on = rw (e, e) (λ h. omega arith)
+
+pub first_run : (bs : List ℕ) → 0 < word_length bs → runs bs ≡ take (word_length bs) bs ∷ runs (drop (word_length bs) bs)
+unfolding runs
+first_run [] = λ h. absurd (omega arith)
+first_run (b ∷ bs) = by (blank b) refl
+  where
+    by : (t : Bool) → blank b ≡ t → 0 < word_length (b ∷ bs) → runs (b ∷ bs) ≡ take (word_length (b ∷ bs)) (b ∷ bs) ∷ runs (drop (word_length (b ∷ bs)) (b ∷ bs))
+    by true e h = absurd (omega (arith, rw e at h))
+    by false e h = rw (e, one-add) (ap (λ ps. filter some (onto_first b ps)) (pieces_are bs) ∙ ap (λ ws. (b ∷ take (word_length bs) bs) ∷ ws) (later_are bs))

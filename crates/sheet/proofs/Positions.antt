@@ -1,5 +1,5 @@
 -- Numerals read from the left, and bytes read by pairs.
-use Rattle.std.proofs.Common.{◌≡◌, ℕ, suc, ◌+◌, ◌*◌, ◌/◌, ◌^◌, ◌<◌, ◌≤◌, Bool, true, false, leb, List, [], ◌∷◌, ◌++◌, length, Some, None, Option, sym, refl, ap, ◌∙◌, mul_assoc, add-mul, mul-one, le-mul_of_pos_right, arith, map, subst, Result, Ok, Err, ◌%◌, ◌==◌, true-eqb, eq-eqb, Bor, le-leb, leb-false, leb-true}
+use Rattle.std.proofs.Common.{◌≡◌, ℕ, suc, ◌+◌, ◌*◌, ◌^◌, ◌<◌, ◌≤◌, Bool, true, false, cond, leb, List, [], ◌∷◌, ◌++◌, length, get_or, drop, Some, None, Option, sym, refl, ap, ◌∙◌, append_assoc, mul_assoc, add-mul, mul-one, le-mul_of_pos_right, arith, map, subst, Bor, le-leb, leb-false, leb-true}
 use native.Mathlib.Nat.{pow-zero, pow-succ', one-le-pow}
 use borrow.Author.Tests.{lt-leb}
 use Rattle.std.specs.Option.{option_map}
@@ -11,13 +11,9 @@ use Rattle.std.specs.Fn.{Called, Mut}
 use Rattle.std.specs.Iterator.{AlwaysYields, TryFoldsItems, TryFoldTurn}
 use Rattle.std.specs.List.{FoldsTo}
 use Rattle.std.specs.Option.{MatchOption}
-use Rattle.std.specs.Result.{result_ok, MatchResult}
 use Rattle.std.proofs.iter.Yields.{gives_left}
-use Rattle.std.proofs.lemmas.Bool.Decides.{nat_tests}
 use Rattle.std.proofs.lemmas.Iterator.{YieldsList}
-use Rattle.hex.specs.declared.error.FromHexError.{FromHexError}
-use Rattle.hex.specs.Hex.{decode_sized, decode_pairs, hex_digit_value, pair_value, value_at, ◌>>=◌}
-use Rattle.sheet.specs.Numeral.{and_then, radix, digit_of, digits_of, value, at_most, appended_of, number_of, paired, bytes_of}
+use Rattle.sheet.specs.Numeral.{and_then, radix, digit_of, digits_of, value, at_most, appended_of, number_of, byte_of, paired, bytes_of}
 
 -- the number so far, and then the digits of bs
 abbrev pub reads_on : Base → ℕ → ℕ → List ℕ → Option ℕ
@@ -81,10 +77,6 @@ module _ (base : Base) (limit : ℕ) where
   no_word [] h = refl
   no_word (b ∷ bs) h = absurd (omega arith)
 
--- the byte that one pair of digits writes
-abbrev pub byte_of : ℕ → ℕ → Option ℕ
-byte_of high low = and_then (digit_of Hexadecimal high) (λ h. option_map (λ l. h * 16 + l) (digit_of Hexadecimal low))
-
 pairs_more : (h l : Option ℕ) (o : Option (List ℕ)) → and_then (and_then h (λ x. option_map (λ ds. x ∷ ds) (and_then l (λ y. option_map (λ ds. y ∷ ds) o)))) paired ≡ and_then (and_then h (λ x. option_map (λ y. x * 16 + y) l)) (λ b. option_map (λ bs. b ∷ bs) (and_then o paired))
 pairs_more None l o = refl
 pairs_more (Some x) None o = refl
@@ -95,6 +87,42 @@ pairs_more (Some x) (Some y) (Some ds) = refl
 pub bytes_more : (h l : ℕ) (bs : List ℕ) → bytes_of (h ∷ l ∷ bs) ≡ and_then (byte_of h l) (λ b. option_map (λ more. b ∷ more) (bytes_of bs))
 unfolding bytes_of
 bytes_more h l bs = pairs_more (digit_of Hexadecimal h) (digit_of Hexadecimal l) (digits_of Hexadecimal bs)
+
+-- what is left of a word when the loop over its pairs comes to xs
+pub pairs_end : (xs : List ℕ) → length xs ≡ 0 → bytes_of xs ≡ Some []
+unfolding bytes_of
+pairs_end [] h = refl
+pairs_end (x ∷ xs) h = absurd (omega arith)
+
+pub pairs_odd : (xs : List ℕ) → length xs ≡ 1 → bytes_of xs ≡ None
+unfolding bytes_of
+pairs_odd [] h = absurd (omega arith)
+pairs_odd (x ∷ y ∷ xs) h = absurd (omega arith)
+pairs_odd (x ∷ []) h = odd (digit_of Hexadecimal x)
+  where
+    odd : (o : Option ℕ) → and_then (and_then o (λ d. option_map (λ ds. d ∷ ds) (Some []))) paired ≡ None
+    odd None = refl
+    odd (Some d) = refl
+
+pub pairs_none : (xs : List ℕ) → 2 ≤ length xs → byte_of (get_or xs 0 0) (get_or xs 1 0) ≡ None → bytes_of xs ≡ None
+pairs_none [] h e = absurd (omega arith)
+pairs_none (x ∷ []) h e = absurd (omega arith)
+pairs_none (x ∷ y ∷ xs) h e = bytes_more x y xs ∙ ap (λ o. and_then o (λ b. option_map (λ more. b ∷ more) (bytes_of xs))) e
+
+pub pairs_more_by : (front xs : List ℕ) (b : ℕ) → 2 ≤ length xs → byte_of (get_or xs 0 0) (get_or xs 1 0) ≡ Some b → option_map (λ more. (front ++ b ∷ []) ++ more) (bytes_of (drop 2 xs)) ≡ option_map (λ more. front ++ more) (bytes_of xs)
+pairs_more_by front [] b h e = absurd (omega arith)
+pairs_more_by front (x ∷ []) b h e = absurd (omega arith)
+pairs_more_by front (x ∷ y ∷ xs) b h e =
+    regroup (bytes_of xs)
+    ∙ ap (option_map (λ more. front ++ more)) (sym (bytes_more x y xs ∙ ap (λ o. and_then o (λ b. option_map (λ more. b ∷ more) (bytes_of xs))) e))
+  where
+    regroup : (o : Option (List ℕ)) → option_map (λ more. (front ++ b ∷ []) ++ more) o ≡ option_map (λ more. front ++ more) (option_map (λ more. b ∷ more) o)
+    regroup None = refl
+    regroup (Some more) = ap Some (append_assoc front (b ∷ []) more)
+
+pub mapped_same : (o : Option (List ℕ)) → option_map (λ more. [] ++ more) o ≡ o
+mapped_same None = refl
+mapped_same (Some more) = refl
 
 -- what an answer says of the turns: to go on with a number, or to break off
 abbrev goes_on : {E : Type 0} → Option ℕ → ControlFlow E ℕ → Type 0
@@ -125,70 +153,16 @@ module _ (base : Base) (limit : ℕ) {F : Type 0} {g : Mut F (ℕ × (Bor ℕ ×
       let on = turns E run.0 left.0 (f, n) (run.2, run.3) refl run.5 in
       sym (ap (reads_on base limit n) left.1 ∙ on.1 ∙ ends E steps run.4.0 u run.3 run.2 left.0 run.1 r on.0 left.2 run.4.2 run.6)
 
--- `hex` reads the digits as a sheet does
-digit_same : (c : ℕ) → hex_digit_value c ≡ digit_of Hexadecimal c
-digit_same c = grind (arith, nat_tests)
-
-value_same : (c i : ℕ) → result_ok (value_at c i) ≡ digit_of Hexadecimal c
-value_same c i = by (hex_digit_value c) refl
+-- a number keeps within its limit
+pub number_bound : (base : Base) (limit : ℕ) (word : List ℕ) (n : ℕ) → number_of base limit word ≡ Some n → n ≤ limit
+unfolding number_of
+number_bound base limit [] n e = absurd (let z : ◌≡◌ {A = ℕ} 0 1 = cc in omega arith)
+number_bound base limit (b ∷ bs) n e = of_digits (digits_of base (b ∷ bs)) e
   where
-    by : (o : Option ℕ) → hex_digit_value c ≡ o → result_ok (value_at c i) ≡ digit_of Hexadecimal c
-    by None e = rw e (sym e ∙ digit_same c)
-    by (Some v) e = rw e (sym e ∙ digit_same c)
+    of_value : (m : ℕ) (t : Bool) → leb m limit ≡ t → cond t (Some m) None ≡ Some n → n ≤ limit
+    of_value m true l e = let same : m ≡ n = cc in omega (arith, leb-true _ _ l)
+    of_value m false l e = absurd (let z : ◌≡◌ {A = ℕ} 0 1 = cc in omega arith)
 
-pair_same : (high low i : ℕ) → result_ok (pair_value high low i) ≡ byte_of high low
-pair_same high low i = by (value_at high i) refl (value_at low (i + 1)) refl
-  where
-    by : (h : Result ℕ FromHexError) → value_at high i ≡ h → (l : Result ℕ FromHexError) → value_at low (i + 1) ≡ l → result_ok (h >>= (λ x. l >>= (λ y. Ok (x * 16 + y)))) ≡ byte_of high low
-    by h e l f = joined h l (digit_of Hexadecimal high) (digit_of Hexadecimal low) (ap result_ok (sym e) ∙ value_same high i) (ap result_ok (sym f) ∙ value_same low (i + 1))
-      where
-        joined : (h l : Result ℕ FromHexError) (o p : Option ℕ) → result_ok h ≡ o → result_ok l ≡ p → result_ok (h >>= (λ x. l >>= (λ y. Ok (x * 16 + y)))) ≡ and_then o (λ x. option_map (λ y. x * 16 + y) p)
-        joined (Err d) l o p e f = ap (λ t. and_then t (λ x. option_map (λ y. x * 16 + y) p)) e
-        joined (Ok x) (Err d) o p e f = ap (λ t. option_map (λ y. x * 16 + y) t) f ∙ ap (λ t. and_then t (λ x. option_map (λ y. x * 16 + y) p)) e
-        joined (Ok x) (Ok y) o p e f = ap (λ t. option_map (λ y. x * 16 + y) t) f ∙ ap (λ t. and_then t (λ x. option_map (λ y. x * 16 + y) p)) e
-
--- the bytes that `hex` decodes
-pairs_same : (i : ℕ) (word : List ℕ) → result_ok (decode_pairs i word) ≡ bytes_of word
-unfolding decode_pairs bytes_of
-pairs_same i [] = refl
-pairs_same i (a ∷ []) = odd (digit_of Hexadecimal a)
-  where
-    odd : (o : Option ℕ) → None ≡ and_then (and_then o (λ d. option_map (λ ds. d ∷ ds) (Some []))) paired
-    odd None = refl
-    odd (Some d) = refl
-pairs_same i (a ∷ b ∷ word) =
-    more (pair_value a b i) (decode_pairs (i + 2) word)
-    ∙ (λ j. and_then (pair_same a b i j) (λ byte. option_map (λ bytes. byte ∷ bytes) (pairs_same (i + 2) word j)))
-    ∙ sym (bytes_more a b word)
-  where
-    more : (p : Result ℕ FromHexError) (r : Result (List ℕ) FromHexError) → result_ok (p >>= (λ byte. r >>= (λ bytes. Ok (byte ∷ bytes)))) ≡ and_then (result_ok p) (λ byte. option_map (λ bytes. byte ∷ bytes) (result_ok r))
-    more (Err d) r = refl
-    more (Ok byte) (Err d) = refl
-    more (Ok byte) (Ok bytes) = refl
-
-odd_none : (i : ℕ) (word : List ℕ) → length word % 2 ≡ 1 → result_ok (decode_pairs i word) ≡ None
-unfolding decode_pairs
-odd_none i [] h = absurd (omega (arith, h))
-odd_none i (a ∷ []) h = refl
-odd_none i (a ∷ b ∷ word) h = none (pair_value a b i) (decode_pairs (i + 2) word) (odd_none (i + 2) word (omega (arith, h)))
-  where
-    none : (p : Result ℕ FromHexError) (r : Result (List ℕ) FromHexError) → result_ok r ≡ None → result_ok (p >>= (λ byte. r >>= (λ bytes. Ok (byte ∷ bytes)))) ≡ None
-    none (Err d) r e = refl
-    none (Ok byte) (Err d) e = refl
-    none (Ok byte) (Ok bytes) e = absurd (let z : ◌≡◌ {A = ℕ} 0 1 = cc in omega arith)
-
-decoded : (word : List ℕ) → result_ok (decode_sized word (length word / 2)) ≡ bytes_of word
-decoded word = by (length word % 2 == 1) refl
-  where
-    by : (t : Bool) → (length word % 2 == 1) ≡ t → result_ok (decode_sized word (length word / 2)) ≡ bytes_of word
-    by true e = rw e (sym (odd_none 0 word (true-eqb (length word % 2) 1 (sym e))) ∙ pairs_same 0 word)
-    by false e = rw (e, eq-eqb (length word / 2) (length word / 2) refl) (pairs_same 0 word)
-
--- what a decoder into half as many bytes as there are digits tells
-pub decoded_some : (word bytes : List ℕ) (n : ℕ) (d : Result (List ℕ) FromHexError) → n ≡ length word / 2 → decode_sized word n ≡ d → MatchResult d (λ bs. ◌≡◌ {A = Result (Unit {0}) FromHexError} (Ok tt) (Ok tt) × (bytes ≡ bs)) (λ e. ◌≡◌ {A = Result (Unit {0}) FromHexError} (Ok tt) (Err e)) → Some bytes ≡ bytes_of word
-decoded_some word bytes n (Ok bs) is e m = ap Some m.1 ∙ ap result_ok (sym e) ∙ ap (λ k. result_ok (decode_sized word k)) is ∙ decoded word
-decoded_some word bytes n (Err why) is e m = absurd (let z : ◌≡◌ {A = ℕ} 0 1 = cc in omega arith)
-
-pub decoded_none : (word bytes : List ℕ) (n : ℕ) (why : FromHexError) (d : Result (List ℕ) FromHexError) → n ≡ length word / 2 → decode_sized word n ≡ d → MatchResult d (λ bs. ◌≡◌ {A = Result (Unit {0}) FromHexError} (Err why) (Ok tt) × (bytes ≡ bs)) (λ e. ◌≡◌ {A = Result (Unit {0}) FromHexError} (Err why) (Err e)) → None ≡ bytes_of word
-decoded_none word bytes n why (Err e) is h m = ap result_ok (sym h) ∙ ap (λ k. result_ok (decode_sized word k)) is ∙ decoded word
-decoded_none word bytes n why (Ok bs) is h m = absurd (let never = m.0 in let z : ◌≡◌ {A = ℕ} 0 1 = cc in omega arith)
+    of_digits : (o : Option (List ℕ)) → and_then o (λ ds. at_most limit (value base ds)) ≡ Some n → n ≤ limit
+    of_digits None e = absurd (let z : ◌≡◌ {A = ℕ} 0 1 = cc in omega arith)
+    of_digits (Some ds) e = of_value (value base ds) (leb (value base ds) limit) refl e

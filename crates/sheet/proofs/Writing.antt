@@ -11,12 +11,12 @@ use Rattle.message.specs.declared.request.RequestHead.{RequestHead}
 use Rattle.message.specs.Request.{Request}
 use Rattle.sheet.specs.declared.numeral.Base.{Base}
 use Rattle.sheet.specs.declared.numeral.Base.TheVariants.{Decimal, Hexadecimal}
-use Rattle.sheet.specs.Numeral.{and_then, radix, digit_of, digits_of, value, at_most, number_of, bytes_of}
+use Rattle.sheet.specs.Numeral.{and_then, radix, digit_of, digits_of, value, at_most, number_of, byte_of, bytes_of}
 use Rattle.sheet.specs.Text.{blank, comment}
 use Rattle.sheet.specs.Words.{Plain, Typed}
 use Rattle.sheet.specs.Line.{request, reading, head_of, request_of, line_of}
 use Rattle.sheet.specs.Written.{digit_text, numeral, pairs, data_words, request_words, written, Fits}
-use Rattle.sheet.proofs.Positions.{radix_pos, byte_of, bytes_more}
+use Rattle.sheet.proofs.Positions.{radix_pos, bytes_more}
 use Rattle.sheet.proofs.Spaced.{words_spaced}
 
 -- a digit's text is read as the digit

@@ -60,3 +60,7 @@ paired (high ∷ low ∷ ds) = option_map (λ bytes. (high * 16 + low) ∷ bytes
 -- the bytes that a word of hexadecimal digits writes
 unfoldable pub bytes_of : List ℕ → Option (List ℕ)
 bytes_of word = and_then (digits_of Hexadecimal word) paired
+
+-- the byte that one pair of digits writes
+abbrev pub byte_of : ℕ → ℕ → Option ℕ
+byte_of high low = and_then (digit_of Hexadecimal high) (λ h. option_map (λ l. h * 16 + l) (digit_of Hexadecimal low))

@@ -1,6 +1,6 @@
 ghost use Rattle.std.specs.Prelude.{◌≡◌, IfOk, vec_items};
 ghost use Rattle.std.specs.Option.{option_map};
-ghost use Rattle.sheet.specs.Numeral.{radix, digit_of, appended_of, number_of, bytes_of};
+ghost use Rattle.sheet.specs.Numeral.{radix, digit_of, appended_of, number_of, byte_of, bytes_of};
 
 use std::alloc::{AllocError, Global};
 
@@ -51,15 +51,31 @@ pub fn number(word: &[u8], base: Base, limit: u64) -> Option<u64>
         .try_fold(0, |value, byte| appended(value, *byte, base, limit))
 }
 
-// The bytes that `word` writes by pairs of hexadecimal digits, the high half first.
+// The byte that two hexadecimal digits write.
+fn byte(high: u8, low: u8) -> Option<u8>
+    ensures { result ≡ byte_of high low }
+{
+    let high = Base::Hexadecimal.digit(high)?;
+    let low = Base::Hexadecimal.digit(low)?;
+    Some((high * 16 + low) as u8)
+}
+
+// The bytes that `word` writes by pairs of hexadecimal digits, the high half first. Memory is taken only for pairs that
+// have been read: `hex` decodes into room that is there before it looks at the first digit.
 pub fn byte_pairs(heap: Global, word: &[u8]) -> Result<Option<Vec<u8>>, AllocError>
     ensures { IfOk result (λ bytes. option_map vec_items bytes ≡ bytes_of word.now) }
 {
-    // Into room made here: the error of `hex::decode` mixes want of memory with what a word has wrong.
-    let mut bytes = vec![in heap; 0; word.len() / 2]?;
-    match hex::decode_to_slice(word, &mut bytes) {
-        Ok(()) => Ok(Some(bytes)),
-        // A `match`, since it says plainly that whatever is wrong with the word, it has no bytes.
-        Err(_) => Ok(None),
+    let mut bytes = Vec::new(heap);
+    let mut rest = word;
+    while let [high, low, after @ ..] = rest {
+        let Some(byte) = byte(*high, *low) else {
+            return Ok(None);
+        };
+        bytes.push(byte)?;
+        rest = after;
     }
+    if !rest.is_empty() {
+        return Ok(None);
+    }
+    Ok(Some(bytes))
 }

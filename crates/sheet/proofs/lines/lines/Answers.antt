@@ -1,31 +1,21 @@
-use Rattle.std.proofs.Common.{◌≡◌, ◌-◌, cond, map, take, length, vec_items, IfOk, rules, tests, ap, sym, subst, ◌∙◌}
-use Rattle.std.proofs.lemmas.Iterator.Consumers.{map_from_collect}
-use Rattle.std.proofs.lemmas.Iterator.Splits.{YieldsList-from_slice_split}
-use Rattle.std.specs.List.{slice_get, slice_split}
-use Rattle.sheet.specs.Text.{line_feed}
+use Rattle.std.proofs.Common.{◌≡◌, vec_items, IfOk, sym, ap, ◌∙◌, subst, eq-eqb, ne_eqb}
+use Rattle.std.specs.List.{slice_split}
+use Rattle.sheet.specs.Text.{line_feed, texts}
 use Rattle.sheet.specs.Lines.{lines_of}
-use Rattle.sheet.proofs.Cuts.{ends_empty, is_last_empty, last_taken, trimmed, lines_are}
+use Rattle.sheet.proofs.Cuts.{no_lines, lines_ended, lines_open}
 use Rattle.sheet.proofs.lines.lines.Goals as goal
-use Rattle.sheet.proofs.lines.lines.Goals.{then-is_some_and, else-is_some_and}
 
-pub returns : goal.returns
-returns c =
-    let text = c.args.text.now in
-    let pieces = vec_items c.in_ok-lines.lines in
-    let all = map_from_collect c.collect.result c.collect.ensures.ran (YieldsList-from_slice_split _ line_feed text c.split.ensures.rest c.split.ensures.done c.split.ensures.closure (λ x r q k. search (rules, tests))) in
-    let cut = subst (λ r. IfOk r (λ w. map (λ x. x.now) (vec_items w) ≡ slice_split line_feed text)) c.in_ok-lines.was all in
-    let last = c.last.ensures.value ∙ ap (λ xs. slice_get xs (length xs - 1)) c.deref.ensures.value in
-    let empty : c.is_some_and.result ≡ ends_empty pieces = is_last_empty pieces c.last.result c.is_some_and.result last (search (rules, tests)) in
-    let trim = last_taken pieces ∙ ap trimmed cut ∙ lines_are text in
-    let fewer = map (λ x. x.now) (take (length pieces - 1) pieces) in
-    let len = sym c.deref.ensures.len ∙ ap length c.deref.ensures.value in
-    elim c.if-is_some_and.branch [
-      | then-is_some_and w ↦
-          ap (λ v. map (λ x. x.now) (vec_items v)) w.lines-is
-          ∙ ap (λ xs. map (λ x. x.now) xs) w.pop.ensures.rest
-          ∙ ap (λ n. map (λ x. x.now) (take (n - 1) pieces)) len
-          ∙ subst (λ t. cond t fewer (map (λ x. x.now) pieces) ≡ lines_of text) (sym empty ∙ w.if-is_some_and.true) trim
-      | else-is_some_and w ↦
-          ap (λ v. map (λ x. x.now) (vec_items v)) w.lines-is
-          ∙ subst (λ t. cond t fewer (map (λ x. x.now) pieces) ≡ lines_of text) (sym empty ∙ w.if-is_some_and.false) trim
-    ]
+pub returns-in_default : goal.returns-in_default
+returns-in_default c = ap texts c.new.ensures.items ∙ sym (no_lines c.args.text.now c.in_default.ensures.cases)
+
+pub returns-then-last-eq10 : goal.returns-then-last-eq10
+returns-then-last-eq10 c =
+    let cut = c.in-Some.ensures.cases.0 in
+    let same : slice_split line_feed c.in-Some.before.now ≡ lines_of c.args.text.now = sym (ap lines_of cut ∙ lines_ended c.in-Some.before.now c.in-Some.last.now (eq-eqb c.in-Some.last.now 10 c.if-last-eq10.true)) in
+    subst (λ ls. IfOk c.pieces.result (λ v. texts (vec_items v) ≡ ls)) same c.pieces.ensures
+
+pub returns-else-last-eq10 : goal.returns-else-last-eq10
+returns-else-last-eq10 c =
+    let cut = c.in-Some.ensures.cases.0 in
+    let same : slice_split line_feed c.args.text.now ≡ lines_of c.args.text.now = sym (ap lines_of cut ∙ lines_open c.in-Some.before.now c.in-Some.last.now (ne_eqb c.in-Some.last.now 10 c.if-last-eq10.false) ∙ ap (slice_split line_feed) (sym cut)) in
+    subst (λ ls. IfOk c.pieces-else-last-eq10.result (λ v. texts (vec_items v) ≡ ls)) same c.pieces-else-last-eq10.ensures

@@ -1,22 +1,35 @@
-use Rattle.std.proofs.Common.{◌≡◌, ◌/◌, length, drop, Some, refl, ap, ◌∙◌, rules}
-use Rattle.std.proofs.lemmas.List.{take_at}
-use Rattle.hex.specs.Hex.{decode_sized}
-use Rattle.sheet.proofs.Positions.{decoded_some, decoded_none}
+use Rattle.std.proofs.Common.{◌<◌, ◌≤◌, ◌++◌, length, drop, Some, vec_items, sym, ap, ◌∙◌, append-nil, arith, rules, true-eqb, false-eqb}
+use Rattle.std.specs.Option.{option_map}
+use Rattle.std.proofs.lemmas.List.{take_rest}
+use Rattle.sheet.specs.Numeral.{bytes_of}
+use Rattle.sheet.proofs.Positions.{mapped_same, pairs_end, pairs_odd, pairs_none, pairs_more_by}
 use Rattle.sheet.proofs.numeral.byte_pairs.Goals as goal
 
-pub returns-in-Ok : goal.returns-in-Ok
-returns-in-Ok c =
-    let word = c.args.word.now in
-    let out = c.decode_to_slice.new.out in
-    let n = length c.deref_mut.result.now in
-    let half : n ≡ length word / 2 = search rules in
-    let all : length out ≡ c.in_ok-bytes.bytes.len = search rules in
-    ap Some (take_at out (drop (length out) c.in_ok-bytes.bytes.items) c.in_ok-bytes.bytes.len all)
-    ∙ decoded_some word out n (decode_sized word n) half refl c.in-Ok.ensures.value
+pub loop-rest-init : goal.loop-rest-init
+loop-rest-init c = ap (λ xs. option_map (λ more. xs ++ more) (bytes_of c.args.word.now)) c.new-bytes.ensures.items ∙ mapped_same _
 
-pub returns-in-Err : goal.returns-in-Err
-returns-in-Err c =
-    let word = c.args.word.now in
-    let n = length c.deref_mut.result.now in
-    let half : n ≡ length word / 2 = search rules in
-    decoded_none word c.decode_to_slice.new.out n c.in-Err.field-0 (decode_sized word n) half refl c.in-Err.ensures.value
+pub returns-in_default-byte : goal.returns-in_default-byte
+returns-in_default-byte c =
+    let long : 2 ≤ length c.loop-rest.rest.now = search rules in
+    ap (option_map (λ more. vec_items c.loop-rest.bytes ++ more)) (sym (pairs_none _ long (sym c.byte.ensures ∙ c.in_default-byte.is)))
+    ∙ c.loop-rest.invariant
+
+pub loop-rest-preserved : goal.loop-rest-preserved
+loop-rest-preserved c =
+    let long : 2 ≤ length c.loop-rest.rest.now = search rules in
+    let pushed = c.in_ok-push.ensures.items in
+    simp take_rest
+    (ap (λ xs. option_map (λ more. xs ++ more) (bytes_of (drop 2 c.loop-rest.rest.now))) pushed
+    ∙ pairs_more_by _ _ _ long (sym c.byte.ensures ∙ c.in-Some.is) ∙ c.loop-rest.invariant)
+
+pub returns-then-not-is_empty : goal.returns-then-not-is_empty
+returns-then-not-is_empty c =
+    let short : length c.loop-rest.rest.now < 2 = search rules in
+    ap (option_map (λ more. vec_items c.loop-rest.bytes ++ more)) (sym (pairs_odd _ (omega (arith, false-eqb _ 0 c.if-not-is_empty.ensures))))
+    ∙ c.loop-rest.invariant
+
+pub returns : goal.returns
+returns c =
+    ap Some (sym (append-nil _))
+    ∙ ap (option_map (λ more. vec_items c.loop-rest.bytes ++ more)) (sym (pairs_end _ (true-eqb _ 0 c.if-not-is_empty.ensures)))
+    ∙ c.loop-rest.invariant

@@ -1,17 +1,21 @@
-use Rattle.std.proofs.Common.{rules, tests, ◌∙◌}
-use Rattle.std.proofs.lemmas.Iterator.Consumers.{map_from_collect, YieldsList-at, YieldsList-from_filter}
-use Rattle.std.proofs.lemmas.Iterator.Splits.{YieldsList-from_slice_split}
-use Rattle.sheet.specs.Text.{blank}
-use Rattle.sheet.specs.Words.{said, some, runs, words_of}
-use Rattle.sheet.proofs.Cuts.{some_is}
+use Rattle.std.proofs.Common.{◌++◌, vec_items, sym, ap, ◌∙◌, append_assoc}
+use Rattle.std.proofs.lemmas.List.{map_push}
+use Rattle.sheet.specs.Text.{texts}
+use Rattle.sheet.specs.Words.{runs, words_of}
 use Rattle.sheet.proofs.words.words.Goals as goal
 
-pub returns : goal.returns
-unfolding words_of runs
-returns c =
-    map_from_collect _ c.collect.ensures.ran
-    (YieldsList-from_filter _ some
-    (YieldsList-at c.filter.ensures.source
-    (YieldsList-from_slice_split _ blank (said c.args.line.now) (c.split.ensures.rest ∙ c.before_comment.ensures) c.split.ensures.done c.split.ensures.closure (λ x r q k. search (rules, tests))))
-    c.filter.ensures.closure
-    (λ x r q k. search (rules, tests, some_is)))
+pub loop-word-init : goal.loop-word-init
+unfolding words_of
+loop-word-init c =
+    ap (λ ws. texts ws ++ runs c.before_comment-rest.result.now) c.new-words.ensures.items
+    ∙ ap runs c.before_comment-rest.ensures
+
+pub loop-word-preserved : goal.loop-word-preserved
+loop-word-preserved c =
+    let old = vec_items c.loop-word.words in
+    let after = c.in-Some.after.now in
+    ap (λ ws. texts ws ++ runs after) c.in_ok-push.ensures.items
+    ∙ ap (λ ws. ws ++ runs after) (map_push (λ x. x.now) old c.in-Some.word)
+    ∙ append_assoc (texts old) _ (runs after)
+    ∙ ap (λ ws. texts old ++ ws) (sym c.in-Some.ensures.0)
+    ∙ c.loop-word.invariant
