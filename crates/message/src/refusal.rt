@@ -1,51 +1,60 @@
 ghost use Rattle.std.specs.Prelude.{◌≡◌};
 ghost use Rattle.message.specs.Refusal.{refusal_number};
 
+use std::fmt;
 use thiserror::Error;
 
 // Why a call is refused: one list for the whole product, each with its number and what it says to people.
 #[derive(Clone, Copy, Debug, Error)]
 pub enum Refusal {
-    #[error("no such opcode")]
     Opcode = 1,
-    #[error("the opcode has no such param")]
     Param = 2,
-    #[error("size not allowed for the opcode")]
     Size = 3,
-    #[error("address is not a multiple of the message's bytes")]
     Address = 4,
-    #[error("mask bit past the message, or missing in it")]
     Mask = 5,
-    #[error("data is not as long as the message asks")]
     Data = 6,
-    #[error("source is not below the agent's sources")]
     Source = 7,
-    #[error("size is above the agent's largest")]
     TooLarge = 8,
-    #[error("a response to the source is still owed")]
     SourceOwed = 9,
-    #[error("agent is not ready")]
     NotReady = 10,
-    #[error("no response is at hand")]
     NothingAtHand = 11,
-    #[error("buffer is shorter than the data")]
     BufferShort = 12,
-    #[error("log is shorter than the list of calls")]
     LogShort = 13,
-    #[error("no such port")]
     NoPort = 14,
-    #[error("the port's slot is taken")]
     SlotTaken = 15,
-    #[error("parameter is outside its limits")]
     Parameter = 16,
-    #[error("base has a bit that the mask has too")]
     BaseInMask = 17,
-    #[error("the address sets overlap")]
     SetsOverlap = 18,
-    #[error("a later beat's head differs from the first's")]
     HeadDiffers = 19,
-    #[error("corrupt is not what denied asks")]
     Corrupt = 20,
+}
+
+// What the refusal says to people. By hand: a text that is derived takes no width, and reports are aligned by widths.
+impl fmt::Display for Refusal {
+    fn fmt<W: fmt::Write>(&self, f: &mut fmt::Formatter<W>) -> fmt::Result {
+        f.pad(match self {
+            Refusal::Opcode => "no such opcode",
+            Refusal::Param => "the opcode has no such param",
+            Refusal::Size => "size not allowed for the opcode",
+            Refusal::Address => "address is not a multiple of the message's bytes",
+            Refusal::Mask => "mask bit past the message, or missing in it",
+            Refusal::Data => "data is not as long as the message asks",
+            Refusal::Source => "source is not below the agent's sources",
+            Refusal::TooLarge => "size is above the agent's largest",
+            Refusal::SourceOwed => "a response to the source is still owed",
+            Refusal::NotReady => "agent is not ready",
+            Refusal::NothingAtHand => "no response is at hand",
+            Refusal::BufferShort => "buffer is shorter than the data",
+            Refusal::LogShort => "log is shorter than the list of calls",
+            Refusal::NoPort => "no such port",
+            Refusal::SlotTaken => "the port's slot is taken",
+            Refusal::Parameter => "parameter is outside its limits",
+            Refusal::BaseInMask => "base has a bit that the mask has too",
+            Refusal::SetsOverlap => "the address sets overlap",
+            Refusal::HeadDiffers => "a later beat's head differs from the first's",
+            Refusal::Corrupt => "corrupt is not what denied asks",
+        })
+    }
 }
 
 // The number by which sheets, logs and documents know the refusal.

@@ -1,5 +1,5 @@
 ghost use Rattle.std.specs.Prelude.{◌≡◌, ◌≤◌, min};
-ghost use Rattle.message.specs.Request.{request, whole, mask_fits, checked, TellsLegal};
+ghost use Rattle.message.specs.Request.{request, whole, mask_fits, filled, checked, TellsLegal};
 
 use crate::kind::{measure, place};
 use crate::operation::Operation;
@@ -26,11 +26,19 @@ impl RequestHead {
         ensures legal { TellsLegal (request self «data».now) result }
     {
         let operation = place(self.opcode, self.param, self.size, self.address)?;
-        if !mask_fits(operation, self.size, self.mask) {
-            return Err(Refusal::Mask);
-        }
-        measure(operation, self.size, data.len())
+        fill(operation, self.size, self.mask, data.len())
     }
+}
+
+// Refuses a mask that is not one of the size, and then data that are not as long as the operation asks.
+fn fill(operation: Operation, size: u8, mask: u64, count: usize) -> Result<Operation, Refusal>
+    requires { size ≤ 6 }
+    ensures { result ≡ filled operation size mask count }
+{
+    if !mask_fits(operation, size, mask) {
+        return Err(Refusal::Mask);
+    }
+    measure(operation, size, count)
 }
 
 // One bit for each byte of a message; no message is larger than size 6.

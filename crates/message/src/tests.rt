@@ -1,5 +1,6 @@
 use crate::address_set::AddressSet;
 use crate::operation::{Operation, Prefetch};
+use crate::refusal::Refusal;
 use crate::request::RequestHead;
 use crate::response::ResponseHead;
 use std::test::Fail;
@@ -86,5 +87,16 @@ fn sets_hold_whole_requests(rt: HostRuntime) -> Result<(), Fail> {
     assert!(rt; set.holds(get) && !set.holds(RequestHead { size: 5, ..get }));
     assert!(rt; !set.overlaps(AddressSet::new(0x1000_0010, 0xf)?));
     assert!(rt; AddressSet::new(0x10, 0x1f).is_err());
+    Ok(())
+}
+
+// What a table of refusals needs: a width with its alignment and fill, and a precision.
+#[test]
+fn a_refusal_is_padded(rt: HostRuntime) -> Result<(), Fail> {
+    let refusal = Refusal::Opcode;
+    let right = format!(in rt.alloc(); "[{refusal:>16}]")?;
+    assert_eq!(rt; right.as_str(), "[  no such opcode]");
+    let filled = format!(in rt.alloc(); "[{refusal:*<16.7}]")?;
+    assert_eq!(rt; filled.as_str(), "[no such*********]");
     Ok(())
 }
