@@ -6,4 +6,5 @@ pub mod Places
 pub mod Lays
 pub mod Verdicts
 pub mod Requests
+pub mod Responses
 pub mod Reading

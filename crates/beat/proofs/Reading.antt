@@ -92,19 +92,23 @@ module _ {K H B : Type 0} (ks : Kinds K) (ch : Beats K H B) where
   pub carrying : (h : H) (k : K) → ks.of (ch.header h).opcode (ch.header h).param ≡ Ok k → brings_data ks ch h ≡ ks.carries k
   carrying h k e = ap (λ r. elim r [ Ok p ↦ ks.carries p | Err x ↦ false ]) e
 
-  -- the first beat of a message with data is due, and the buffer has room
+  -- the first beat of a message with data is due, if it is placed right
+  pub due_placed : Laws ch → (w : Width) (b : B) (k : K) → ks.of (ch.header (ch.start b)).opcode (ch.header (ch.start b)).param ≡ Ok k → (ch.header (ch.start b)).size ≤ 6 → (ch.header (ch.start b)).address % 2 ^ (ch.header (ch.start b)).size ≡ 0 → ks.carries k ≡ true → Due ks ch w (ch.start b) 0
+  due_placed laws w b k of size aligned d =
+      let h = ch.header (ch.start b) in
+      record {
+        size = size;
+        aligned = aligned;
+        carries = carrying (ch.start b) k of ∙ d;
+        due = (shape w h.size h.address size aligned).beats;
+        low = omega (arith, laws.unmasked b, pow_pos (0 * per ks ch w (ch.start b)));
+      }
+
+  -- one that is not refused is, and the buffer has room
   pub due_first : Small ks → Laws ch → (w : Width) (b : B) (room : ℕ) (k : K) → judged ks ch None w b room ≡ Ok k → ks.carries k ≡ true → Due ks ch w (ch.start b) 0
   due_first small laws w b room k e d =
       let f = fit None w b room k e in
-      let h = ch.header (ch.start b) in
-      let size = small k h.size f.fits in
-      record {
-        size = size;
-        aligned = f.aligned;
-        carries = carrying (ch.start b) k f.of ∙ d;
-        due = (shape w h.size h.address size f.aligned).beats;
-        low = omega (arith, laws.unmasked b, pow_pos (0 * per ks ch w (ch.start b)));
-      }
+      due_placed laws w b k f.of (small k (ch.header (ch.start b)).size f.fits) f.aligned d
 
   pub first_room : (w : Width) (b : B) (room : ℕ) (k : K) → judged ks ch None w b room ≡ Ok k → ks.carries k ≡ true → 2 ^ (ch.header (ch.start b)).size ≤ room
   first_room w b room k e d =
