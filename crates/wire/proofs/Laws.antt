@@ -37,6 +37,11 @@ zero_payload f n (l ∷ ls) h =
     ∙ replicate-append-replicate n (length ls * n) 0
     ∙ ap (λ m. replicate m 0) (sym (one_more (length ls) n))
 
+-- what holds of the first of a list
+lead_weaker : {B : Type 0} (P Q : B → Type 0) → ((b : B) → P b → Q b) → (bs : List B) → Leads P bs → Leads Q bs
+lead_weaker P Q g [] h = tt
+lead_weaker P Q g (b ∷ bs) h = g b h
+
 module _ {K H B : Type 0} (ks : Kinds K) (ch : Beats K H B) where
   -- what the lanes of denied beats are, and of others
   heard_zeros : (h : H) (bs : List B) → (ch.header h).denied ≡ true → AllByRecursion (λ b. ch.header (ch.start b) ≡ ch.header h) bs → AllByRecursion (λ l. l ≡ 0) (map (heard ks ch) bs)
@@ -60,8 +65,15 @@ module _ {K H B : Type 0} (ks : Kinds K) (ch : Beats K H B) where
       let h = ch.header (ch.start b) in
       some_beats w (ch.start b) (ks.carries k) (shape w h.size h.address (small k h.size f.fits) f.aligned)
 
-  -- beats that are read are those of the message that they bring, which is legal
-  module _ (small : Small ks) (laws : Laws ch) (ms : Messages K H B) (owes : Owes ks ch ms) (w : Width) (k : K) (b : B) (bs : List B) (xs ys : List ℕ) (r : Read ks ch w k b (b ∷ bs) xs ys) (all : length (b ∷ bs) ≡ due ks ch w k (ch.start b)) where
+  -- the header of a later beat, and the judgement that only its channel makes of it
+  pub one_fits : (w : Width) (k : K) (b c : B) (room : ℕ) → judged ks ch (Some (ch.start b)) w c room ≡ Ok k → (ch.header (ch.start c) ≡ ch.header (ch.start b)) × (ch.own k (lane_of ks ch w (ch.start b)) (per ks ch w (ch.start b)) c ≡ Ok tt)
+  one_fits w k b c room j =
+      let f = fit ks ch (Some (ch.start b)) w c room k j in
+      let same = sym (same_fields (ch.header (ch.start b)) (ch.header (ch.start c)) f.same) in
+      (same, sym (λ i. ch.own k (first_lane (width_bytes w) (same i).address) (per_beat (width_bytes w) (same i).size) c) ∙ f.own)
+
+  -- beats that are read are those of the message that they bring, which is legal, whether b is one of them or not
+  module _ (small : Small ks) (laws : Laws ch) (ms : Messages K H B) (owes : Owes ks ch ms) (w : Width) (k : K) (b : B) (bs : List B) (xs ys : List ℕ) (r : Read ks ch w k b bs xs ys) (all : length bs ≡ due ks ch w k (ch.start b)) where
     abbrev s : H
     s = ch.start b
 
@@ -75,72 +87,66 @@ module _ {K H B : Type 0} (ks : Kinds K) (ch : Beats K H B) where
     lies = shape w (ch.header s).size (ch.header s).address size first.aligned
 
     abbrev brings : Message H
-    brings = message (head_of ks ch w k s (b ∷ bs)) (bytes_of ks ch w k s (b ∷ bs))
+    brings = message (head_of ks ch w k s bs) (bytes_of ks ch w k s bs)
 
     header_is : ch.header brings.head ≡ ch.header s
     header_is = laws.header_kept s _
 
-    -- what each of them is
-    one_fits : (c : B) → judged ks ch (Some s) w c (length xs) ≡ Ok k → (ch.header (ch.start c) ≡ ch.header s) × (ch.own k (lane_of ks ch w s) (per ks ch w s) c ≡ Ok tt)
-    one_fits c j =
-        let f = fit ks ch (Some s) w c (length xs) k j in
-        let same = sym (same_fields (ch.header s) (ch.header (ch.start c)) f.same) in
-        (same, sym (λ i. ch.own k (first_lane (width_bytes w) (same i).address) (per_beat (width_bytes w) (same i).size) c) ∙ f.own)
+    heads_all : AllByRecursion (λ c. ch.header (ch.start c) ≡ ch.header s) bs
+    heads_all = All-weaker (λ c. judged ks ch (Some s) w c (length xs) ≡ Ok k) (λ c. ch.header (ch.start c) ≡ ch.header s) (λ c j. (one_fits w k b c (length xs) j).0) bs r.accepted
 
-    heads_all : AllByRecursion (λ c. ch.header (ch.start c) ≡ ch.header s) (b ∷ bs)
-    heads_all = All-weaker (λ c. judged ks ch (Some s) w c (length xs) ≡ Ok k) (λ c. ch.header (ch.start c) ≡ ch.header s) (λ c j. (one_fits c j).0) (b ∷ bs) r.accepted
-
-    whole_beats : (d : Bool) → ks.carries k ≡ d → d ≡ true → length (b ∷ bs) * per ks ch w s ≡ 2 ^ (ch.header s).size
+    whole_beats : (d : Bool) → ks.carries k ≡ d → d ≡ true → length bs * per ks ch w s ≡ 2 ^ (ch.header s).size
     whole_beats d e t = ap (λ n. n * per ks ch w s) (all ∙ ap (λ x. beats_in ks ch w x s) (e ∙ t)) ∙ lies.whole
 
-    own_all : All ks ch k s (lane_of ks ch w s) (per ks ch w s) (b ∷ bs)
+    own_all : All ks ch k s (lane_of ks ch w s) (per ks ch w s) bs
     own_all =
         record {
-          own = All-weaker (λ c. judged ks ch (Some s) w c (length xs) ≡ Ok k) (λ c. ch.own k (lane_of ks ch w s) (per ks ch w s) c ≡ Ok tt) (λ c j. (one_fits c j).1) (b ∷ bs) r.accepted;
+          own = All-weaker (λ c. judged ks ch (Some s) w c (length xs) ≡ Ok k) (λ c. ch.own k (lane_of ks ch w s) (per ks ch w s) c ≡ Ok tt) (λ c j. (one_fits w k b c (length xs) j).1) bs r.accepted;
           with_data = λ d. whole_beats true d refl;
           without = λ d. (all ∙ ap (λ x. beats_in ks ch w x s) d, omega arith);
         }
 
-    long_if : (d : Bool) → ks.carries k ≡ d → length (bytes_of ks ch w k s (b ∷ bs)) ≡ cond d (2 ^ (ch.header s).size) 0
+    long_if : (d : Bool) → ks.carries k ≡ d → length (bytes_of ks ch w k s bs) ≡ cond d (2 ^ (ch.header s).size) 0
     long_if true d =
-        ap length (cond-true (ks.carries k) _ [] d) ∙ payload_length (lane_of ks ch w s) (per ks ch w s) (map (heard ks ch) (b ∷ bs)) ∙ ap (λ n. n * per ks ch w s) (length-map (b ∷ bs) (heard ks ch)) ∙ whole_beats true d refl
+        ap length (cond-true (ks.carries k) _ [] d) ∙ payload_length (lane_of ks ch w s) (per ks ch w s) (map (heard ks ch) bs) ∙ ap (λ n. n * per ks ch w s) (length-map bs (heard ks ch)) ∙ whole_beats true d refl
     long_if false d = ap length (cond-false (ks.carries k) _ [] d)
 
-    right : Right ks k (ch.header s) (length (bytes_of ks ch w k s (b ∷ bs)))
+    right : Right ks k (ch.header s) (length (bytes_of ks ch w k s bs))
     right = record { size = size; aligned = first.aligned; long = long_if (ks.carries k) refl }
 
-    zeros_if : (d : Bool) → ks.carries k ≡ d → (ch.header s).denied ≡ true → bytes_of ks ch w k s (b ∷ bs) ≡ replicate (length (bytes_of ks ch w k s (b ∷ bs))) 0
+    zeros_if : (d : Bool) → ks.carries k ≡ d → (ch.header s).denied ≡ true → bytes_of ks ch w k s bs ≡ replicate (length (bytes_of ks ch w k s bs)) 0
     zeros_if true d denied =
         let f = lane_of ks ch w s in
         let n = per ks ch w s in
-        let ls = map (heard ks ch) (b ∷ bs) in
-        let is : bytes_of ks ch w k s (b ∷ bs) ≡ payload f n ls = cond-true (ks.carries k) _ [] d in
-        is ∙ zero_payload f n ls (heard_zeros s (b ∷ bs) denied heads_all) ∙ ap (λ m. replicate m 0) (sym (ap length is ∙ payload_length f n ls))
+        let ls = map (heard ks ch) bs in
+        let is : bytes_of ks ch w k s bs ≡ payload f n ls = cond-true (ks.carries k) _ [] d in
+        is ∙ zero_payload f n ls (heard_zeros s bs denied heads_all) ∙ ap (λ m. replicate m 0) (sym (ap length is ∙ payload_length f n ls))
     zeros_if false d denied =
-        let is : bytes_of ks ch w k s (b ∷ bs) ≡ [] = cond-false (ks.carries k) _ [] d in
+        let is : bytes_of ks ch w k s bs ≡ [] = cond-false (ks.carries k) _ [] d in
         is ∙ ap (λ m. replicate m 0) {x = 0} (sym (ap length is))
 
     pub brings_legal : ms.Legal k brings
-    brings_legal = owes.legal k b (lane_of ks ch w s) (per ks ch w s) (b ∷ bs) (bytes_of ks ch w k s (b ∷ bs)) own_all first.place right (zeros_if (ks.carries k) refl)
+    brings_legal = owes.legal k b (lane_of ks ch w s) (per ks ch w s) bs (bytes_of ks ch w k s bs) own_all first.place right (zeros_if (ks.carries k) refl)
 
-    pub brings_carried : Carries ks ch ms w k brings (b ∷ bs)
-    brings_carried =
+    -- a denied message's first beat tells its denial
+    pub brings_carried : ((ch.header s).denied ≡ true → Leads (λ c. ch.start c ≡ s) bs) → Carries ks ch ms w k brings bs
+    brings_carried lead =
         let back = sym header_is in
         let f = lane_of ks ch w s in
         let n = per ks ch w s in
         record {
           count = all ∙ ap (λ x. beat_count (ks.carries k) (width_bytes w) x.size) back;
-          heads = subst (λ x. AllByRecursion (λ c. ch.header (ch.start c) ≡ x) (b ∷ bs)) back heads_all;
-          fits = All-weaker (λ c. judged ks ch (Some s) w c (length xs) ≡ Ok k) (ms.Fits k brings.head) (λ c j. owes.fitting k brings.head c f n (one_fits c j).1 ((one_fits c j).0 ∙ back)) (b ∷ bs) r.accepted;
-          first = λ d. sym (laws.again s _ 0 ∙ laws.unset b);
+          heads = subst (λ x. AllByRecursion (λ c. ch.header (ch.start c) ≡ x) bs) back heads_all;
+          fits = All-weaker (λ c. judged ks ch (Some s) w c (length xs) ≡ Ok k) (ms.Fits k brings.head) (λ c j. owes.fitting k brings.head c f n (one_fits w k b c (length xs) j).1 ((one_fits w k b c (length xs) j).0 ∙ back)) bs r.accepted;
+          first = λ d. lead_weaker (λ c. ch.start c ≡ s) (λ c. ch.start c ≡ ch.with_mask brings.head 0) (λ c e. e ∙ sym (laws.again s _ 0 ∙ laws.unset b)) bs (lead (ap (λ x. x.denied) back ∙ d));
           masks =
-              subst (λ x. HoldMask (first_lane (width_bytes w) x.address) (per_beat (width_bytes w) x.size) 0 (map ch.lane_mask (b ∷ bs)) (ch.mask brings.head)) back
-              (owes.held k s f n (b ∷ bs) own_all);
+              subst (λ x. HoldMask (first_lane (width_bytes w) x.address) (per_beat (width_bytes w) x.size) 0 (map ch.lane_mask bs) (ch.mask brings.head)) back
+              (owes.held k s f n bs own_all);
           bytes = λ d granted.
               let plain = ap (λ x. x.denied) back ∙ granted in
-              subst (λ x. HoldBytes (first_lane (width_bytes w) x.address) (per_beat (width_bytes w) x.size) 0 (map ch.lanes (b ∷ bs)) brings.bytes) back
-              (held f n 0 (map ch.lanes (b ∷ bs)) brings.bytes
-              (ap (λ m. drop m brings.bytes) (zero-mul n) ∙ cond-true (ks.carries k) _ [] d ∙ ap (payload f n) (heard_lanes s (b ∷ bs) plain heads_all)));
+              subst (λ x. HoldBytes (first_lane (width_bytes w) x.address) (per_beat (width_bytes w) x.size) 0 (map ch.lanes bs) brings.bytes) back
+              (held f n 0 (map ch.lanes bs) brings.bytes
+              (ap (λ m. drop m brings.bytes) (zero-mul n) ∙ cond-true (ks.carries k) _ [] d ∙ ap (payload f n) (heard_lanes s bs plain heads_all)));
         }
 
   -- a legal message of which beats are all
@@ -152,18 +158,22 @@ module _ {K H B : Type 0} (ks : Kinds K) (ch : Beats K H B) where
     pub head_is : head_of ks ch w k (ch.start b) bs ≡ message.head
     pub bytes_are : bytes_of ks ch w k (ch.start b) bs ≡ message.bytes
 
-  -- what beats bring, of which none is refused and none is missing, is a legal message
-  pub sound : Small ks → Laws ch → (ms : Messages K H B) → Owes ks ch ms → (w : Width) (k : K) (b : B) (bs : List B) (xs ys : List ℕ) → Read ks ch w k b (b ∷ bs) xs ys → length (b ∷ bs) ≡ due ks ch w k (ch.start b) → Source ms w k b (b ∷ bs)
-  sound small laws ms owes w k b bs xs ys r all =
-      let carried = brings_carried small laws ms owes w k b bs xs ys r all in
+  -- what beats bring, of which none is refused and none is missing, is a legal message; of a denied one the first tells the denial
+  pub sound_of : Small ks → Laws ch → (ms : Messages K H B) → Owes ks ch ms → (w : Width) (k : K) (b : B) (bs : List B) (xs ys : List ℕ) → ((ch.header (ch.start b)).denied ≡ true → Leads (λ c. ch.start c ≡ ch.start b) bs) → Read ks ch w k b bs xs ys → length bs ≡ due ks ch w k (ch.start b) → Source ms w k b bs
+  sound_of small laws ms owes w k b bs xs ys lead r all =
+      let carried = brings_carried small laws ms owes w k b bs xs ys r all lead in
       record {
-        message = message (head_of ks ch w k (ch.start b) (b ∷ bs)) (bytes_of ks ch w k (ch.start b) (b ∷ bs));
+        message = message (head_of ks ch w k (ch.start b) bs) (bytes_of ks ch w k (ch.start b) bs);
         legal = brings_legal small laws ms owes w k b bs xs ys r all;
         carries = carried;
         count_is = sym all ∙ carried.count;
         head_is = refl;
         bytes_are = refl;
       }
+
+  -- so it is if b is the first of them
+  pub sound : Small ks → Laws ch → (ms : Messages K H B) → Owes ks ch ms → (w : Width) (k : K) (b : B) (bs : List B) (xs ys : List ℕ) → Read ks ch w k b (b ∷ bs) xs ys → length (b ∷ bs) ≡ due ks ch w k (ch.start b) → Source ms w k b (b ∷ bs)
+  sound small laws ms owes w k b bs xs ys r all = sound_of small laws ms owes w k b (b ∷ bs) xs ys (λ d. refl) r all
 
   -- the beats of a legal message are not refused, and bring it
   module _ (laws : Laws ch) (ms : Messages K H B) (owes : Owes ks ch ms) (w : Width) (k : K) (m : Message H) (l : ms.Legal k m) where
@@ -184,7 +194,7 @@ module _ {K H B : Type 0} (ks : Kinds K) (ch : Beats K H B) where
         let rooms : leb (length_of ks k h.size) room ≡ true = le-leb (length_of ks k h.size) room (omega (arith, right_there.long, ap (λ x. length_of ks k x.size) ec)) in
         rw (place, follows, own, rooms)
 
-    admitted_all : (room : ℕ) → length m.bytes ≤ room → (b : B) (cs : List B) (j : ℕ) → ch.header (ch.start b) ≡ ch.header m.head → AllByRecursion (λ c. ch.header (ch.start c) ≡ ch.header m.head) cs → AllByRecursion (ms.Fits k m.head) cs → HoldMask (lane_of ks ch w m.head) (per ks ch w m.head) j (map ch.lane_mask cs) (ch.mask m.head) → (j + length cs) * per ks ch w m.head ≤ 2 ^ (ch.header m.head).size → AllByRecursion (λ c. judged ks ch (Some (ch.start b)) w c room ≡ Ok k) cs
+    pub admitted_all : (room : ℕ) → length m.bytes ≤ room → (b : B) (cs : List B) (j : ℕ) → ch.header (ch.start b) ≡ ch.header m.head → AllByRecursion (λ c. ch.header (ch.start c) ≡ ch.header m.head) cs → AllByRecursion (ms.Fits k m.head) cs → HoldMask (lane_of ks ch w m.head) (per ks ch w m.head) j (map ch.lane_mask cs) (ch.mask m.head) → (j + length cs) * per ks ch w m.head ≤ 2 ^ (ch.header m.head).size → AllByRecursion (λ c. judged ks ch (Some (ch.start b)) w c room ≡ Ok k) cs
     admitted_all room roomy b [] j eb heads fits masks le = tt
     admitted_all room roomy b (c ∷ cs) j eb heads fits masks le =
         let n = per ks ch w m.head in

@@ -11,8 +11,8 @@ use Rattle.beat.proofs.Verdicts.{not_refused}
 use Rattle.wire.specs.declared.joined.Joined.{Joined}
 use Rattle.wire.specs.declared.joined.Unread.{Unread}
 use Rattle.wire.specs.Rules.{head_of, Read, HalfRead}
-use Rattle.wire.specs.Joins.{unread, Ends, EndsList, Joins}
-use Rattle.wire.proofs.Progress.{Reached, begun_on, burst_on, burst_stops}
+use Rattle.wire.specs.Joins.{unread, Ends, EndsList, Joins, Reached}
+use Rattle.wire.proofs.Progress.{begun_on, burst_on, burst_stops}
 
 module _ {K H B : Type 0} (ks : Kinds K) (ch : Beats K H B) (laws : Laws ch) {U : Type 0} (at : U → Part H) where
   -- a list whose beats from the first to the one at i are read, and the rest
@@ -25,7 +25,7 @@ module _ {K H B : Type 0} (ks : Kinds K) (ch : Beats K H B) (laws : Laws ch) {U 
       front : (n : ℕ) → take (suc n) (b ∷ bs) ≡ b ∷ take n bs
       front n = refl
 
-      all_read : (h : H) (zs : List ℕ) → Reached ks ch at w k b (b ∷ (take i bs ++ c ∷ [])) xs (Whole h) zs → Ends ks ch w k b (b ∷ bs) xs (Ok (Some (record { head = h; beats = i + 2 }))) zs
+      all_read : (h : H) (zs : List ℕ) → Reached ks ch (HalfRead ks ch at) w k b (b ∷ (take i bs ++ c ∷ [])) xs (Whole h) zs → Ends ks ch w k b (b ∷ bs) xs (Ok (Some (record { head = h; beats = i + 2 }))) zs
       all_read h zs r =
           let next : i + 2 ≡ suc (i + 1) = omega arith in
           let all : b ∷ (take i bs ++ c ∷ []) ≡ take (i + 2) (b ∷ bs) = next_taken ∙ ap (λ n. take n (b ∷ bs)) (sym next) in
@@ -61,7 +61,7 @@ module _ {K H B : Type 0} (ks : Kinds K) (ch : Beats K H B) (laws : Laws ch) {U 
         (omega (arith, half.due, ap length all), subst (λ cs. Read ks ch w k b cs xs ys) all half.read)
 
   -- the answer to a list whose first beat is read
-  joins_begun : (n : ℕ) (w : Width) (k : K) (b : B) (bs : List B) (xs : List ℕ) (r : Result (Option (Joined H)) Unread) (ys : List ℕ) → width_of n ≡ Ok w → judged ks ch None w b (length xs) ≡ Ok k → Ends ks ch w k b (b ∷ bs) xs r ys → Joins ks ch n (b ∷ bs) xs r ys
+  pub joins_begun : (n : ℕ) (w : Width) (k : K) (b : B) (bs : List B) (xs : List ℕ) (r : Result (Option (Joined H)) Unread) (ys : List ℕ) → width_of n ≡ Ok w → judged ks ch None w b (length xs) ≡ Ok k → Ends ks ch w k b (b ∷ bs) xs r ys → Joins ks ch n (b ∷ bs) xs r ys
   joins_begun n w k b bs xs r ys wide j e =
       not_refused (unread 0) (width_of n) w r xs ys (λ v. EndsList ks ch v (b ∷ bs) xs r ys) wide
       (not_refused (unread 0) (judged ks ch None w b (length xs)) k r xs ys (λ p. Ends ks ch w p b (b ∷ bs) xs r ys) j e)

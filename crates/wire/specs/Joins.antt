@@ -3,6 +3,8 @@ use Rattle.std.specs.Prelude.{◌≡◌, ℕ, ◌<◌, ◌≤◌, List, [], ◌�
 use Rattle.std.specs.Simd.Lanes.{Each1}
 use Rattle.message.specs.declared.refusal.Refusal.{Refusal}
 use Rattle.message.specs.Kind.{Kinds}
+use Rattle.beat.specs.declared.begun.Begun.{Begun}
+use Rattle.beat.specs.declared.begun.Begun.TheVariants.{Whole, Half}
 use Rattle.beat.specs.declared.width.Width.{Width}
 use Rattle.beat.specs.Begun.{UnlessRefused}
 use Rattle.beat.specs.Channel.{Beats, judged}
@@ -68,3 +70,23 @@ module _ {K H B : Type 0} (ks : Kinds K) (ch : Beats K H B) where
   abbrev pub Again : Messages K H B → ℕ → List B → List ℕ → Result (Option (Joined H)) Unread → List ℕ → Type 0
   Again ms n bs xs r ys =
       (w : Width) (k : K) (m : Message H) → width_of n ≡ Ok w → ms.Legal k m → Each1 (λ x. x < 256) m.bytes → bs ≡ cut_beats ks ch w k m → length m.bytes ≤ length xs → WholeRead w k m xs r ys
+
+  -- what a reader with bursts U keeps: what it means that a burst waits for its next beat, those before it being read
+  abbrev pub Waits : Type 0 → Type 1
+  Waits U = Width → K → B → List B → List ℕ → U → List ℕ → Type 0
+
+  -- what is known once the beats bs are read: the message, or a burst that waits
+  abbrev pub Reached : {U : Type 0} → Waits U → Width → K → B → List B → List ℕ → Begun H U → List ℕ → Type 0
+  Reached waits w k b bs xs (Whole h) ys =
+      (length bs ≡ due ks ch w k (ch.start b)) × Read ks ch w k b bs xs ys × (h ≡ head_of ks ch w k (ch.start b) bs)
+  Reached waits w k b bs xs (Half u) ys = waits w k b bs xs u ys
+
+  -- how reading is begun
+  abbrev pub Begins : {U : Type 0} → Waits U → ℕ → B → List ℕ → Result (Begun H U) Refusal → List ℕ → Type 0
+  Begins waits n b xs r ys =
+      (w : Width) → width_of n ≡ Ok w → UnlessRefused (λ e. e) (judged ks ch None w b (length xs)) r xs ys (λ k. elim r [ Ok g ↦ Reached waits w k b (b ∷ []) xs g ys | Err e ↦ ⊥ ])
+
+  -- how it goes on with a burst that waits
+  abbrev pub Continues : {U : Type 0} → Waits U → U → B → List ℕ → Result (Begun H U) (Refusal × U) → List ℕ → Type 0
+  Continues waits u c ys r zs =
+      (w : Width) (k : K) (b : B) (bs : List B) (xs : List ℕ) → waits w k b bs xs u ys → elim r [ Ok g ↦ Reached waits w k b (bs ++ c ∷ []) xs g zs | Err e ↦ (judged ks ch (Some (ch.start b)) w c (length xs) ≡ Err e.0) × (zs ≡ ys) ]

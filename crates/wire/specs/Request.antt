@@ -67,12 +67,12 @@ module _ (o : Operation) (q : Request) (l : Legal o q) where
 -- a lane mask that fits
 module _ (o : Operation) (f k m : ℕ) (fits : lane_mask_fits o f k m ≡ true) where
   -- unless partial it is the active lanes
-  active : partial o ≡ false → m ≡ active_lanes f k
+  pub active : partial o ≡ false → m ≡ active_lanes f k
   active p =
       eqb-true m (active_lanes f k) (sym (cond-false (partial o) (m / 2 ^ f % 2 ^ k * 2 ^ f == m) (m == active_lanes f k) p) ∙ fits)
 
   -- it has no bit outside them
-  covered : (t : Bool) → partial o ≡ t → m / 2 ^ f % 2 ^ k * 2 ^ f ≡ m
+  pub covered : (t : Bool) → partial o ≡ t → m / 2 ^ f % 2 ^ k * 2 ^ f ≡ m
   covered true p =
       eqb-true _ m (sym (cond-true (partial o) (m / 2 ^ f % 2 ^ k * 2 ^ f == m) (m == active_lanes f k) p) ∙ fits)
   covered false p =

@@ -21,7 +21,7 @@ use Rattle.wire.specs.Request.{passed}
 use Rattle.wire.specs.Rules.{Messages, Owes}
 
 -- a beat of the channel
-abbrev Beat : Type 0
+abbrev pub Beat : Type 0
 Beat = ResponseBeat × Sideband
 
 -- responses as messages: which are legal; a beat of one is corrupt where there are data and they are denied
