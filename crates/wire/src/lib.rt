@@ -4,5 +4,7 @@
 pub mod join;
 pub mod joined;
 pub mod messages;
+pub mod request;
+pub mod response;
 #[cfg(test)]
 mod tests;

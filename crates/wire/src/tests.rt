@@ -1,7 +1,9 @@
 use crate::join::join;
+use crate::request::ChannelA;
+use crate::response::ChannelD;
 use beat::cut::cut;
-use beat::request::{ChannelA, RequestBeat};
-use beat::response::{ChannelD, ResponseBeat, Sideband};
+use beat::request::RequestBeat;
+use beat::response::{ResponseBeat, Sideband};
 use message::request::RequestHead;
 use message::response::Denial;
 use std::test::Fail;

@@ -1,0 +1,2 @@
+// Channel A: requests.
+pub use beat::request::ChannelA;
