@@ -3,5 +3,8 @@ pub mod Rules
 pub mod Joins
 pub mod Payloads
 pub mod Bits
+pub mod Messages
+pub mod Progress
+pub mod Laws
 pub mod Request
 pub mod Response

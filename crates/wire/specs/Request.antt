@@ -22,7 +22,7 @@ use Rattle.beat.proofs.Masks.{part_again}
 use Rattle.beat.proofs.Requests.{legal_right}
 use Rattle.wire.specs.Beats.{joined_mask, HoldMask}
 use Rattle.wire.specs.Bits.{held_mask, mask_below, mask_full, whole_bits, held_whole}
-use Rattle.wire.specs.Rules.{Messages, All, Owes}
+use Rattle.wire.specs.Messages.{Messages, All, Owes}
 
 -- requests as messages: which are legal; beside header, mask and lanes their beats have nothing
 abbrev pub request_messages : Messages Operation RequestHead RequestBeat

@@ -18,7 +18,7 @@ use Rattle.beat.proofs.Reading.{agreed}
 use Rattle.beat.proofs.Reading.{agree_self}
 use Rattle.wire.specs.Beats.{HoldMask}
 use Rattle.wire.specs.Request.{passed}
-use Rattle.wire.specs.Rules.{Messages, Owes}
+use Rattle.wire.specs.Messages.{Messages, Owes}
 
 -- a beat of the channel
 abbrev pub Beat : Type 0

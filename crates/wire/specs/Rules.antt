@@ -1,105 +1,79 @@
--- Whole messages over a channel of the bus: which beats are theirs, and what beats bring together.
-use Rattle.std.specs.Prelude.{◌≡◌, ℕ, zero, suc, ◌+◌, ◌*◌, ◌^◌, ◌<◌, ◌≤◌, true, false, cond, List, [], ◌∷◌, ◌++◌, map, length, drop, replicate, Some, None, Ok}
+-- What joining has to know of a channel.
+use Rattle.std.specs.Prelude.{◌≡◌, ℕ, zero, suc, ◌+◌, ◌<◌, ◌≤◌, List, [], ◌∷◌, ◌++◌, length, drop, Ok, Result}
+use Rattle.std.specs.Simd.Lanes.{Each1}
 use Rattle.std.specs.List.{AllByRecursion}
-use Rattle.message.specs.Kind.{Kinds, placed}
-use Rattle.message.specs.Request.{whole}
+use Rattle.message.specs.declared.refusal.Refusal.{Refusal}
 use Rattle.beat.specs.declared.width.Width.{Width}
-use Rattle.beat.specs.Channel.{Beats, Right, Part, part, lane_of, per, beats_in, heard, message_beat, judged}
-use Rattle.beat.specs.Lanes.{beat_bits}
-use Rattle.wire.specs.Beats.{payload, joined_mask, HoldBytes, HoldMask}
 
--- a message: its head, and the bytes of its data in the order of their addresses
-pub record Message (H : Type 0) : Type 0 where
-  pub head : H
-  pub bytes : List ℕ
+-- of a channel with beats B, and messages M that have heads H and are of kinds K
+pub record Rules (B H K M : Type 0) : Type 1 where
+  -- the first refusal of a first beat that applies, or its message's kind; and the same of any beat, the first one given before it
+  pub first : Width → B → ℕ → Result K Refusal
+  pub next : Width → B → B → ℕ → Result K Refusal
+  -- how many beats its message has, by a first beat
+  pub due : Width → K → B → ℕ
+  -- the head and the bytes that beats bring together, by the first of them
+  pub joined_head : Width → K → B → List B → H
+  pub joined_bytes : Width → K → B → List B → List ℕ
+  -- the parts of a message, and its number of beats
+  pub head : M → H
+  pub bytes : M → List ℕ
+  pub count : Width → K → M → ℕ
+  -- a legal message; beats that are its own, but for what a reader ignores; and beat j as the cutter makes it
+  pub Legal : K → M → Type 0
+  pub Carries : Width → K → M → List B → Type 0
+  pub cut : Width → K → M → ℕ → B
 
-abbrev pub message : {H : Type 0} → H → List ℕ → Message H
-message h bytes = record { head = h; bytes = bytes }
-
--- what only this channel says of its messages: which are legal, and what a message's beat has beside header, mask and lanes
-pub record Messages (K H B : Type 0) : Type 1 where
-  pub Legal : K → Message H → Type 0
-  pub Fits : K → H → B → Type 0
-
--- the first of a list, if there is one
-abbrev pub Leads : {B : Type 0} → (B → Type 0) → List B → Type 0
-Leads P [] = Unit {0}
-Leads P (b ∷ bs) = P b
-
-module _ {K H B : Type 0} (ks : Kinds K) (ch : Beats K H B) where
-  -- how many beats a message has
-  abbrev pub due : Width → K → H → ℕ
-  due w k h = beats_in ks ch w (ks.carries k) h
-
-  -- the bytes that beats bring; denied data are zeros
-  abbrev pub bytes_of : Width → K → H → List B → List ℕ
-  bytes_of w k h bs =
-      cond (ks.carries k) (payload (lane_of ks ch w h) (per ks ch w h) (map (heard ks ch) bs)) []
-
-  -- the mask bits that they bring
-  abbrev pub mask_of : Width → H → List B → ℕ
-  mask_of w h bs = joined_mask (lane_of ks ch w h) (per ks ch w h) (map ch.lane_mask bs)
-
-  -- the head that they have together, h being the first one's: without data, the mask is whole
-  abbrev pub head_of : Width → K → H → List B → H
-  head_of w k h bs =
-      ch.with_mask h (cond (ks.carries k) (mask_of w h bs) (whole (ch.header h).size))
-
+module _ {B H K M : Type 0} (ch : Rules B H K M) where
   -- beats are read, b the first of them: none is refused, none is too many, and their bytes stand at the front of the buffer
   pub record Read (w : Width) (k : K) (b : B) (bs : List B) (xs ys : List ℕ) : Type 0 where
-    pub begun : judged ks ch None w b (length xs) ≡ Ok k
-    pub accepted : AllByRecursion (λ c. judged ks ch (Some (ch.start b)) w c (length xs) ≡ Ok k) bs
-    pub few : length bs ≤ due w k (ch.start b)
-    pub buffer : ys ≡ bytes_of w k (ch.start b) bs ++ drop (length (bytes_of w k (ch.start b) bs)) xs
+    pub begun : ch.first w b (length xs) ≡ Ok k
+    pub accepted : AllByRecursion (λ c. ch.next w b c (length xs) ≡ Ok k) bs
+    pub few : length bs ≤ ch.due w k b
+    pub buffer : ys ≡ ch.joined_bytes w k b bs ++ drop (length (ch.joined_bytes w k b bs)) xs
 
-  -- a burst u, of which `at u` has come, waits for its next beat, those before it being read
-  pub record HalfRead {U : Type 0} (at : U → Part H) (w : Width) (k : K) (b : B) (bs : List B) (xs : List ℕ) (u : U) (ys : List ℕ) : Type 0 where
-    pub read : Read w k b bs xs ys
-    pub come : at u ≡ part (head_of w k (ch.start b) bs) w (length bs)
-    pub mask : ch.mask (at u).head ≡ mask_of w (ch.start b) bs
-    pub carries : ks.carries k ≡ true
-    pub due : length bs < due w k (ch.start b)
-    pub long : length ys ≡ length xs
+  -- a legal message of which beats are all
+  pub record Source (w : Width) (k : K) (b : B) (bs : List B) : Type 0 where
+    pub message : M
+    pub legal : ch.Legal k message
+    pub carries : ch.Carries w k message bs
+    pub count_is : ch.due w k b ≡ ch.count w k message
+    pub head_is : ch.joined_head w k b bs ≡ ch.head message
+    pub bytes_are : ch.joined_bytes w k b bs ≡ ch.bytes message
+
+  -- a first beat that is not refused is the first of at least one
+  abbrev pub SomeDue : Type 0
+  SomeDue = (w : Width) (k : K) (b : B) (room : ℕ) → ch.first w b room ≡ Ok k → 0 < ch.due w k b
+
+  -- what beats bring, of which none is refused and none is missing, is a legal message
+  abbrev pub Sound : Type 0
+  Sound = (w : Width) (k : K) (b : B) (bs : List B) (xs ys : List ℕ) → Read w k b (b ∷ bs) xs ys → length (b ∷ bs) ≡ ch.due w k b → Source w k b (b ∷ bs)
+
+  -- what a reader finds of the beats of a message: none is refused, and they bring the message
+  pub record Accepted (w : Width) (k : K) (m : M) (room : ℕ) (b : B) (bs : List B) : Type 0 where
+    pub begun : ch.first w b room ≡ Ok k
+    pub accepted : AllByRecursion (λ c. ch.next w b c room ≡ Ok k) bs
+    pub count_is : ch.due w k b ≡ ch.count w k m
+    pub head_is : ch.joined_head w k b bs ≡ ch.head m
+    pub bytes_are : ch.joined_bytes w k b bs ≡ ch.bytes m
+
+  -- the beats of a legal message are accepted
+  abbrev pub Complete : Type 0
+  Complete = (w : Width) (k : K) (m : M) (room : ℕ) (b : B) (bs : List B) → ch.Legal k m → length (ch.bytes m) ≤ room → ch.Carries w k m (b ∷ bs) → Accepted w k m room b (b ∷ bs)
+
+  -- a legal message has as many beats as it should, and at least one
+  abbrev pub Counted : Type 0
+  Counted = (w : Width) (k : K) (m : M) (bs : List B) → ch.Legal k m → ch.Carries w k m bs → (length bs ≡ ch.count w k m) × (0 < ch.count w k m)
 
   -- the beats that the cutter makes of a message, from beat j on
-  abbrev pub cut_from : Width → K → Message H → ℕ → ℕ → List B
+  abbrev pub cut_from : Width → K → M → ℕ → ℕ → List B
   cut_from w k m j zero = []
-  cut_from w k m j (suc n) = message_beat ks ch w k m.head m.bytes j ∷ cut_from w k m (j + 1) n
+  cut_from w k m j (suc n) = ch.cut w k m j ∷ cut_from w k m (j + 1) n
 
   -- all of them
-  abbrev pub cut_beats : Width → K → Message H → List B
-  cut_beats w k m = cut_from w k m 0 (due w k m.head)
+  abbrev pub cut_beats : Width → K → M → List B
+  cut_beats w k m = cut_from w k m 0 (ch.count w k m)
 
-  -- beats are those of a message, but for what a reader ignores: lanes that carry no byte or denied ones, and all that is
-  -- beside them but with a denied message's first
-  pub record Carries (ms : Messages K H B) (w : Width) (k : K) (m : Message H) (bs : List B) : Type 0 where
-    pub count : length bs ≡ due w k m.head
-    pub heads : AllByRecursion (λ b. ch.header (ch.start b) ≡ ch.header m.head) bs
-    pub fits : AllByRecursion (ms.Fits k m.head) bs
-    pub first : (ch.header m.head).denied ≡ true → Leads (λ b. ch.start b ≡ ch.with_mask m.head 0) bs
-    pub masks : HoldMask (lane_of ks ch w m.head) (per ks ch w m.head) 0 (map ch.lane_mask bs) (ch.mask m.head)
-    pub bytes : ks.carries k ≡ true → (ch.header m.head).denied ≡ false → HoldBytes (lane_of ks ch w m.head) (per ks ch w m.head) 0 (map ch.lanes bs) m.bytes
-
-  -- beats that none refuses, all of a message's: `count` lanes from `first` on in each
-  pub record All (k : K) (h : H) (first count : ℕ) (bs : List B) : Type 0 where
-    pub own : AllByRecursion (λ b. ch.own k first count b ≡ Ok tt) bs
-    pub with_data : ks.carries k ≡ true → length bs * count ≡ 2 ^ (ch.header h).size
-    pub without : ks.carries k ≡ false → (length bs ≡ 1) × (count ≤ 2 ^ (ch.header h).size)
-
-  -- what a channel owes for its messages to be joined
-  pub record Owes (ms : Messages K H B) : Type 0 where
-    -- a legal message is placed right, has zeros for denied data, and the mask that its kind asks
-    pub right : (k : K) (m : Message H) → ms.Legal k m → Right ks k (ch.header m.head) (length m.bytes)
-    pub place : (k : K) (m : Message H) → ms.Legal k m → placed ks (ch.header m.head).opcode (ch.header m.head).param (ch.header m.head).size (ch.header m.head).address ≡ Ok k
-    pub zeros : (k : K) (m : Message H) → ms.Legal k m → (ch.header m.head).denied ≡ true → m.bytes ≡ replicate (length m.bytes) 0
-    pub below : (k : K) (m : Message H) → ms.Legal k m → ch.mask m.head < 2 ^ (2 ^ (ch.header m.head).size)
-    pub masked : (k : K) (m : Message H) → ms.Legal k m → ch.with_mask m.head (cond (ks.carries k) (ch.mask m.head) (whole (ch.header m.head).size)) ≡ m.head
-    -- one that is not denied has, but for the mask, the head of each beat; and its beats are not refused
-    pub granted : (k : K) (m : Message H) → ms.Legal k m → (b : B) → ch.header (ch.start b) ≡ ch.header m.head → (ch.header m.head).denied ≡ false → ch.start b ≡ ch.with_mask m.head 0
-    pub admitted : (k : K) (m : Message H) → ms.Legal k m → (b : B) (first count j : ℕ) → ch.header (ch.start b) ≡ ch.header m.head → ms.Fits k m.head b → ch.lane_mask b ≡ beat_bits count j (ch.mask m.head) * 2 ^ first → (j + 1) * count ≤ 2 ^ (ch.header m.head).size → ch.own k first count b ≡ Ok tt
-    -- beats that are not refused fit the head, have the mask bits that they bring, and bring a legal message
-    pub fitting : (k : K) (h : H) (b : B) (first count : ℕ) → ch.own k first count b ≡ Ok tt → ch.header (ch.start b) ≡ ch.header h → ms.Fits k h b
-    pub held : (k : K) (h : H) (first count : ℕ) (bs : List B) → All k h first count bs → HoldMask first count 0 (map ch.lane_mask bs) (ch.mask (ch.with_mask h (cond (ks.carries k) (joined_mask first count (map ch.lane_mask bs)) (whole (ch.header h).size))))
-    pub legal : (k : K) (b : B) (first count : ℕ) (bs : List B) (bytes : List ℕ) → All k (ch.start b) first count bs → placed ks (ch.header (ch.start b)).opcode (ch.header (ch.start b)).param (ch.header (ch.start b)).size (ch.header (ch.start b)).address ≡ Ok k → Right ks k (ch.header (ch.start b)) (length bytes) → ((ch.header (ch.start b)).denied ≡ true → bytes ≡ replicate (length bytes) 0) → ms.Legal k (message (ch.with_mask (ch.start b) (cond (ks.carries k) (joined_mask first count (map ch.lane_mask bs)) (whole (ch.header (ch.start b)).size))) bytes)
-    -- the cutter's beats have the message's head
-    pub cut : (k : K) (h : H) (mask lanes : ℕ) → (ch.header (ch.start (ch.beat k h mask lanes)) ≡ ch.header h) × ms.Fits k h (ch.beat k h mask lanes) × ((ch.header h).denied ≡ true → ch.start (ch.beat k h mask lanes) ≡ ch.with_mask h 0)
+  -- the cutter's beats of a legal message are its own
+  abbrev pub Cuts : Type 0
+  Cuts = (w : Width) (k : K) (m : M) → ch.Legal k m → Each1 (λ x. x < 256) (ch.bytes m) → ch.Carries w k m (cut_beats w k m)

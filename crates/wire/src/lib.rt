@@ -1,6 +1,7 @@
 // Whole messages over the bus: the beats of a message joined to it.
 #![tactic(auto)]
 
+pub mod channel;
 pub mod join;
 pub mod joined;
 pub mod messages;

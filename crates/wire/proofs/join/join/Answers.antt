@@ -1,14 +1,19 @@
 use Rattle.wire.proofs.Joining.{only_legal, every_legal, again}
 use Rattle.wire.proofs.join.join.Goals as goal
 
-pub returns-clause-only_legal : goal.returns-clause-only_legal
-returns-clause-only_legal g c =
-    only_legal g.C.Kind.Kind.kinds g.C.Channel.beats g.met.C.Kind.Kind.small g.met.C.Channel.laws g.C.Messages.messages g.met.C.Messages.owes c.args.width c.args.beats.now c.args.buffer.now c.read.result c.read.new.buffer c.read.ensures
-
-pub returns-clause-every_legal : goal.returns-clause-every_legal
-returns-clause-every_legal g c =
-    every_legal g.C.Kind.Kind.kinds g.C.Channel.beats g.met.C.Kind.Kind.small g.met.C.Channel.laws g.C.Messages.messages g.met.C.Messages.owes c.args.width c.args.beats.now c.args.buffer.now c.read.result c.read.new.buffer c.read.ensures
-
-pub returns-clause-again : goal.returns-clause-again
-returns-clause-again g c =
-    again g.C.Kind.Kind.kinds g.C.Channel.beats g.met.C.Kind.Kind.small g.met.C.Channel.laws g.C.Messages.messages g.met.C.Messages.owes c.args.width c.args.beats.now c.args.buffer.now c.read.result c.read.new.buffer c.read.ensures
+pub returns : goal.returns
+returns g c =
+    let ch = g.C.Channel.rules in
+    let met = g.met.C.Channel in
+    let n = c.args.width in
+    let bs = c.args.beats.now in
+    let xs = c.args.buffer.now in
+    let r = c.read.result in
+    let ys = c.read.new.buffer in
+    let e = c.read.ensures in
+    record {
+      answer = e;
+      only_legal = only_legal ch met.some met.sound n bs xs r ys e;
+      every_legal = every_legal ch met.complete met.counted n bs xs r ys e;
+      again = again ch met.complete met.counted met.cuts n bs xs r ys e;
+    }

@@ -1,6 +1,6 @@
 -- Beats that are read are those of the legal message that they bring, and those of a legal message are read.
 use Rattle.std.proofs.Common.{◌≡◌, ℕ, zero, suc, ◌+◌, ◌*◌, ◌/◌, ◌%◌, ◌^◌, ◌<◌, ◌≤◌, Bool, true, false, cond, leb, List, [], ◌∷◌, ◌++◌, map, length, take, drop, replicate, Some, None, Ok, sym, refl, ap, ◌∙◌, subst, add-mul, zero-add, one-mul, zero-mul, div-one, mod-eq_of_lt, arith}
-use lib.Lanes.{Each1, digits_l}
+use Rattle.std.specs.Simd.Lanes.{Each1, digits_l}
 use Rattle.std.specs.List.{AllByRecursion}
 use Rattle.std.proofs.ByRecursion.{All-weaker}
 use Rattle.std.proofs.Math.Nat.{zero-div}
@@ -19,8 +19,9 @@ use Rattle.beat.proofs.Widths.{Shape, shape}
 use Rattle.wire.specs.Beats.{payload, joined_mask, HoldBytes, HoldMask}
 use Rattle.wire.specs.Payloads.{one_more, payload_length, brought, held}
 use Rattle.wire.specs.Bits.{brought_mask}
-use Rattle.wire.specs.Rules.{Message, message, Messages, Leads, due, bytes_of, mask_of, head_of, Read, cut_from, cut_beats, Carries, All, Owes}
-use Rattle.wire.proofs.Progress.{same_self, self_judged}
+use Rattle.wire.specs.Rules.{Read, Source, Accepted, cut_from, cut_beats}
+use Rattle.wire.specs.Messages.{Message, message, Messages, Leads, due, bytes_of, mask_of, head_of, Carries, All, Owes, rules_of}
+use Rattle.wire.specs.Progress.{same_self, self_judged}
 
 -- empty lanes bring zeros
 zero_digits : (n : ℕ) → digits_l 256 n 0 ≡ replicate n 0
@@ -73,7 +74,7 @@ module _ {K H B : Type 0} (ks : Kinds K) (ch : Beats K H B) where
       (same, sym (λ i. ch.own k (first_lane (width_bytes w) (same i).address) (per_beat (width_bytes w) (same i).size) c) ∙ f.own)
 
   -- beats that are read are those of the message that they bring, which is legal, whether b is one of them or not
-  module _ (small : Small ks) (laws : Laws ch) (ms : Messages K H B) (owes : Owes ks ch ms) (w : Width) (k : K) (b : B) (bs : List B) (xs ys : List ℕ) (r : Read ks ch w k b bs xs ys) (all : length bs ≡ due ks ch w k (ch.start b)) where
+  module _ (small : Small ks) (laws : Laws ch) (ms : Messages K H B) (owes : Owes ks ch ms) (w : Width) (k : K) (b : B) (bs : List B) (xs ys : List ℕ) (r : Read (rules_of ks ch ms) w k b bs xs ys) (all : length bs ≡ due ks ch w k (ch.start b)) where
     abbrev s : H
     s = ch.start b
 
@@ -149,17 +150,8 @@ module _ {K H B : Type 0} (ks : Kinds K) (ch : Beats K H B) where
               (ap (λ m. drop m brings.bytes) (zero-mul n) ∙ cond-true (ks.carries k) _ [] d ∙ ap (payload f n) (heard_lanes s bs plain heads_all)));
         }
 
-  -- a legal message of which beats are all
-  pub record Source (ms : Messages K H B) (w : Width) (k : K) (b : B) (bs : List B) : Type 0 where
-    pub message : Message H
-    pub legal : ms.Legal k message
-    pub carries : Carries ks ch ms w k message bs
-    pub count_is : due ks ch w k (ch.start b) ≡ due ks ch w k message.head
-    pub head_is : head_of ks ch w k (ch.start b) bs ≡ message.head
-    pub bytes_are : bytes_of ks ch w k (ch.start b) bs ≡ message.bytes
-
   -- what beats bring, of which none is refused and none is missing, is a legal message; of a denied one the first tells the denial
-  pub sound_of : Small ks → Laws ch → (ms : Messages K H B) → Owes ks ch ms → (w : Width) (k : K) (b : B) (bs : List B) (xs ys : List ℕ) → ((ch.header (ch.start b)).denied ≡ true → Leads (λ c. ch.start c ≡ ch.start b) bs) → Read ks ch w k b bs xs ys → length bs ≡ due ks ch w k (ch.start b) → Source ms w k b bs
+  pub sound_of : Small ks → Laws ch → (ms : Messages K H B) → Owes ks ch ms → (w : Width) (k : K) (b : B) (bs : List B) (xs ys : List ℕ) → ((ch.header (ch.start b)).denied ≡ true → Leads (λ c. ch.start c ≡ ch.start b) bs) → Read (rules_of ks ch ms) w k b bs xs ys → length bs ≡ due ks ch w k (ch.start b) → Source (rules_of ks ch ms) w k b bs
   sound_of small laws ms owes w k b bs xs ys lead r all =
       let carried = brings_carried small laws ms owes w k b bs xs ys r all lead in
       record {
@@ -172,7 +164,7 @@ module _ {K H B : Type 0} (ks : Kinds K) (ch : Beats K H B) where
       }
 
   -- so it is if b is the first of them
-  pub sound : Small ks → Laws ch → (ms : Messages K H B) → Owes ks ch ms → (w : Width) (k : K) (b : B) (bs : List B) (xs ys : List ℕ) → Read ks ch w k b (b ∷ bs) xs ys → length (b ∷ bs) ≡ due ks ch w k (ch.start b) → Source ms w k b (b ∷ bs)
+  pub sound : Small ks → Laws ch → (ms : Messages K H B) → Owes ks ch ms → (w : Width) (k : K) (b : B) (bs : List B) (xs ys : List ℕ) → Read (rules_of ks ch ms) w k b (b ∷ bs) xs ys → length (b ∷ bs) ≡ due ks ch w k (ch.start b) → Source (rules_of ks ch ms) w k b (b ∷ bs)
   sound small laws ms owes w k b bs xs ys r all = sound_of small laws ms owes w k b (b ∷ bs) xs ys (λ d. refl) r all
 
   -- the beats of a legal message are not refused, and bring it
@@ -266,15 +258,7 @@ module _ {K H B : Type 0} (ks : Kinds K) (ch : Beats K H B) where
     bytes_brought b cs false d c =
         cond-false (ks.carries k) _ [] d ∙ sym (nil_from_length m.bytes (right_there.long ∙ cond-false (ks.carries k) (2 ^ (ch.header m.head).size) 0 d))
 
-    -- what a reader finds of them: none is refused, and they bring the message
-    pub record Accepted (room : ℕ) (b : B) (bs : List B) : Type 0 where
-      pub begun : judged ks ch None w b room ≡ Ok k
-      pub accepted : AllByRecursion (λ c. judged ks ch (Some (ch.start b)) w c room ≡ Ok k) bs
-      pub count_is : due ks ch w k (ch.start b) ≡ due ks ch w k m.head
-      pub head_is : head_of ks ch w k (ch.start b) bs ≡ m.head
-      pub bytes_are : bytes_of ks ch w k (ch.start b) bs ≡ m.bytes
-
-    pub complete : (room : ℕ) → length m.bytes ≤ room → (b : B) (bs : List B) → Carries ks ch ms w k m (b ∷ bs) → Accepted room b (b ∷ bs)
+    pub complete : (room : ℕ) → length m.bytes ≤ room → (b : B) (bs : List B) → Carries ks ch ms w k m (b ∷ bs) → Accepted (rules_of ks ch ms) w k m room b (b ∷ bs)
     complete room roomy b bs c =
         let all = admitted_all room roomy b (b ∷ bs) 0 c.heads.0 c.heads c.fits c.masks (carried_room (b ∷ bs) (ks.carries k) refl c) in
         record {
@@ -290,28 +274,28 @@ module _ {K H B : Type 0} (ks : Kinds K) (ch : Beats K H B) where
     counted bs c = (c.count, some_beats w m.head (ks.carries k) lies_there)
 
     -- the cutter's beats are its own
-    cut_length : (j n : ℕ) → length (cut_from ks ch w k m j n) ≡ n
+    cut_length : (j n : ℕ) → length (cut_from (rules_of ks ch ms) w k m j n) ≡ n
     cut_length j zero = refl
     cut_length j (suc n) = ap suc (cut_length (j + 1) n)
 
-    cut_heads : (j n : ℕ) → AllByRecursion (λ b. ch.header (ch.start b) ≡ ch.header m.head) (cut_from ks ch w k m j n)
+    cut_heads : (j n : ℕ) → AllByRecursion (λ b. ch.header (ch.start b) ≡ ch.header m.head) (cut_from (rules_of ks ch ms) w k m j n)
     cut_heads j zero = tt
     cut_heads j (suc n) = ((owes.cut k m.head _ _).0, cut_heads (j + 1) n)
 
-    cut_fits : (j n : ℕ) → AllByRecursion (ms.Fits k m.head) (cut_from ks ch w k m j n)
+    cut_fits : (j n : ℕ) → AllByRecursion (ms.Fits k m.head) (cut_from (rules_of ks ch ms) w k m j n)
     cut_fits j zero = tt
     cut_fits j (suc n) = ((owes.cut k m.head _ _).1, cut_fits (j + 1) n)
 
-    cut_first : (j n : ℕ) → (ch.header m.head).denied ≡ true → Leads (λ b. ch.start b ≡ ch.with_mask m.head 0) (cut_from ks ch w k m j n)
+    cut_first : (j n : ℕ) → (ch.header m.head).denied ≡ true → Leads (λ b. ch.start b ≡ ch.with_mask m.head 0) (cut_from (rules_of ks ch ms) w k m j n)
     cut_first j zero d = tt
     cut_first j (suc n) d = (owes.cut k m.head _ _).2 d
 
-    cut_masks : (j n : ℕ) → HoldMask (lane_of ks ch w m.head) (per ks ch w m.head) j (map ch.lane_mask (cut_from ks ch w k m j n)) (ch.mask m.head)
+    cut_masks : (j n : ℕ) → HoldMask (lane_of ks ch w m.head) (per ks ch w m.head) j (map ch.lane_mask (cut_from (rules_of ks ch ms) w k m j n)) (ch.mask m.head)
     cut_masks j zero = tt
     cut_masks j (suc n) =
         (laws.cut_mask k m.head (lane_of ks ch w m.head) (per ks ch w m.head) j _, cut_masks (j + 1) n)
 
-    cut_bytes : (j n : ℕ) → Each1 (λ x. x < 256) m.bytes → (ch.header m.head).denied ≡ false → (j + n) * per ks ch w m.head ≤ length m.bytes → HoldBytes (lane_of ks ch w m.head) (per ks ch w m.head) j (map ch.lanes (cut_from ks ch w k m j n)) m.bytes
+    cut_bytes : (j n : ℕ) → Each1 (λ x. x < 256) m.bytes → (ch.header m.head).denied ≡ false → (j + n) * per ks ch w m.head ≤ length m.bytes → HoldBytes (lane_of ks ch w m.head) (per ks ch w m.head) j (map ch.lanes (cut_from (rules_of ks ch ms) w k m j n)) m.bytes
     cut_bytes j zero small granted le = tt
     cut_bytes j (suc n) small granted le =
         let f = lane_of ks ch w m.head in
@@ -326,7 +310,7 @@ module _ {K H B : Type 0} (ks : Kinds K) (ch : Beats K H B) where
           cut_bytes (j + 1) n small granted all,
         )
 
-    pub cut_carries : Each1 (λ x. x < 256) m.bytes → Carries ks ch ms w k m (cut_beats ks ch w k m)
+    pub cut_carries : Each1 (λ x. x < 256) m.bytes → Carries ks ch ms w k m (cut_beats (rules_of ks ch ms) w k m)
     cut_carries small =
         let n = due ks ch w k m.head in
         let c = per ks ch w m.head in

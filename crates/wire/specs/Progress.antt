@@ -19,7 +19,8 @@ use Rattle.beat.proofs.Verdicts.{not_refused, carried_on, stopped}
 use Rattle.wire.specs.Beats.{payload, joined_mask}
 use Rattle.wire.specs.Payloads.{put_payload}
 use Rattle.wire.specs.Bits.{mask_push}
-use Rattle.wire.specs.Rules.{due, bytes_of, mask_of, head_of, Read, HalfRead}
+use Rattle.wire.specs.Rules.{Read}
+use Rattle.wire.specs.Messages.{Messages, due, bytes_of, mask_of, head_of, rules_of, HalfRead}
 use Rattle.wire.specs.Joins.{Reached, Begins, Continues}
 
 pub same_self : (h : Header) → same_header h h ≡ true
@@ -46,7 +47,7 @@ module _ {K H B : Type 0} (ks : Kinds K) (ch : Beats K H B) where
       let p-is = f.of in
       cc
 
-module _ {K H B : Type 0} (ks : Kinds K) (ch : Beats K H B) (laws : Laws ch) (w : Width) (k : K) (b : B) (d : ks.carries k ≡ true) where
+module _ {K H B : Type 0} (ks : Kinds K) (ch : Beats K H B) (laws : Laws ch) (ms : Messages K H B) (w : Width) (k : K) (b : B) (d : ks.carries k ≡ true) where
   abbrev s : H
   s = ch.start b
 
@@ -102,7 +103,7 @@ module _ {K H B : Type 0} (ks : Kinds K) (ch : Beats K H B) (laws : Laws ch) (w 
     buffer_after xs ys zs e t =
         buffer_more bs c xs ys zs e (t ∙ (λ i. put (first_lane (width_bytes w) (header_is i).address) (per_beat (width_bytes w) (header_is i).size) (length bs) (heard ks ch c) ys))
 
-    pub read_on : {U : Type 0} (at : U → Part H) (xs ys zs : List ℕ) (g : Begun H U) → length zs ≡ length xs → Read ks ch w k b bs xs ys → judged ks ch (Some s) w c (length xs) ≡ Ok k → Taken ks ch at w h (length bs) c ys g zs → Reached ks ch (HalfRead ks ch at) w k b (bs ++ c ∷ []) xs g zs
+    pub read_on : {U : Type 0} (at : U → Part H) (xs ys zs : List ℕ) (g : Begun H U) → length zs ≡ length xs → Read (rules_of ks ch ms) w k b bs xs ys → judged ks ch (Some s) w c (length xs) ≡ Ok k → Taken ks ch at w h (length bs) c ys g zs → Reached (rules_of ks ch ms) (HalfRead ks ch ms at) w k b (bs ++ c ∷ []) xs g zs
     read_on at xs ys zs (Whole g) long-buffer r j t =
         let end : length (bs ++ c ∷ []) ≡ due ks ch w k s = length_push bs c ∙ t.stands.0 ∙ ap (λ x. beat_count true (width_bytes w) x.size) header_is ∙ sym count_is in (
           end,
@@ -144,7 +145,7 @@ module _ {K H B : Type 0} (ks : Kinds K) (ch : Beats K H B) (laws : Laws ch) (w 
   mask_come bs = mask_on [] bs (ap ch.mask (laws.unset b) ∙ laws.unmasked b)
 
   -- so a burst waits if it has the head of its beats, their number and the width
-  pub half_read : {U : Type 0} (at : U → Part H) (bs : List B) (xs : List ℕ) (u : U) (ys : List ℕ) → Read ks ch w k b bs xs ys → at u ≡ part (head_of ks ch w k s bs) w (length bs) → length bs < due ks ch w k s → length ys ≡ length xs → HalfRead ks ch at w k b bs xs u ys
+  pub half_read : {U : Type 0} (at : U → Part H) (bs : List B) (xs : List ℕ) (u : U) (ys : List ℕ) → Read (rules_of ks ch ms) w k b bs xs ys → at u ≡ part (head_of ks ch w k s bs) w (length bs) → length bs < due ks ch w k s → length ys ≡ length xs → HalfRead ks ch ms at w k b bs xs u ys
   half_read at bs xs u ys r come more long =
       record {
         read = r;
@@ -155,19 +156,19 @@ module _ {K H B : Type 0} (ks : Kinds K) (ch : Beats K H B) (laws : Laws ch) (w 
         long = long;
       }
 
-module _ {K H B : Type 0} (ks : Kinds K) (ch : Beats K H B) (laws : Laws ch) {U : Type 0} (at : U → Part H) where
-  none_read : (w : Width) (k : K) (b : B) (xs : List ℕ) → ks.carries k ≡ true → judged ks ch None w b (length xs) ≡ Ok k → Read ks ch w k b [] xs xs
+module _ {K H B : Type 0} (ks : Kinds K) (ch : Beats K H B) (laws : Laws ch) (ms : Messages K H B) {U : Type 0} (at : U → Part H) where
+  none_read : (w : Width) (k : K) (b : B) (xs : List ℕ) → ks.carries k ≡ true → judged ks ch None w b (length xs) ≡ Ok k → Read (rules_of ks ch ms) w k b [] xs xs
   none_read w k b xs d j = record { begun = j; accepted = tt; few = omega arith; buffer = rw d }
 
-  first_read : (w : Width) (k : K) (b : B) (xs : List ℕ) (g : Begun H U) (ys : List ℕ) → length ys ≡ length xs → judged ks ch None w b (length xs) ≡ Ok k → judged ks ch (Some (ch.start b)) w b (length xs) ≡ Ok k → (d : Bool) → ks.carries k ≡ d → First ks ch at k w b xs g ys → Reached ks ch (HalfRead ks ch at) w k b (b ∷ []) xs g ys
+  first_read : (w : Width) (k : K) (b : B) (xs : List ℕ) (g : Begun H U) (ys : List ℕ) → length ys ≡ length xs → judged ks ch None w b (length xs) ≡ Ok k → judged ks ch (Some (ch.start b)) w b (length xs) ≡ Ok k → (d : Bool) → ks.carries k ≡ d → First ks ch at k w b xs g ys → Reached (rules_of ks ch ms) (HalfRead ks ch ms at) w k b (b ∷ []) xs g ys
   first_read w k b xs g ys long first j true d f =
       let taken : Taken ks ch at w (ch.start b) 0 b xs g ys = rw d at f in
-      read_on ks ch laws w k b d [] b (ch.start b) (sym (laws.unset b)) (laws.unmasked b) at xs xs ys g long (none_read w k b xs d first) j taken
+      read_on ks ch laws ms w k b d [] b (ch.start b) (sym (laws.unset b)) (laws.unmasked b) at xs xs ys g long (none_read w k b xs d first) j taken
   first_read w k b xs g ys long first j false d f =
       let both : (g ≡ Whole (ch.with_mask (ch.start b) (whole (ch.header (ch.start b)).size))) × (ys ≡ xs) = rw d at f in
       let one : due ks ch w k (ch.start b) ≡ 1 = ap (λ t. beats_in ks ch w t (ch.start b)) d in
       let nil : bytes_of ks ch w k (ch.start b) (b ∷ []) ≡ [] = cond-false (ks.carries k) _ [] d in
-      subst (λ x. Reached ks ch (HalfRead ks ch at) w k b (b ∷ []) xs x ys) (sym both.0) (
+      subst (λ x. Reached (rules_of ks ch ms) (HalfRead ks ch ms at) w k b (b ∷ []) xs x ys) (sym both.0) (
         sym one,
         record {
           begun = first;
@@ -179,21 +180,21 @@ module _ {K H B : Type 0} (ks : Kinds K) (ch : Beats K H B) (laws : Laws ch) {U 
       )
 
   -- a burst that waits, and its next beat
-  module _ (w : Width) (k : K) (b : B) (bs : List B) (xs : List ℕ) (u : U) (ys : List ℕ) (h : HalfRead ks ch at w k b bs xs u ys) (c : B) where
+  module _ (w : Width) (k : K) (b : B) (bs : List B) (xs : List ℕ) (u : U) (ys : List ℕ) (h : HalfRead ks ch ms at w k b bs xs u ys) (c : B) where
     head_there : (at u).head ≡ ch.with_mask (ch.start b) (mask_of ks ch w (ch.start b) bs)
-    head_there = ap (λ p. p.head) h.come ∙ head_is ks ch laws w k b h.carries bs
+    head_there = ap (λ p. p.head) h.come ∙ head_is ks ch laws ms w k b h.carries bs
 
     burst_judged : judged ks ch (Some (at u).head) (at u).width c (length ys) ≡ judged ks ch (Some (ch.start b)) w c (length xs)
     burst_judged =
         (λ i. judged ks ch (Some (at u).head) (h.come i).width c (h.long i))
         ∙ judged_by ks ch (at u).head (ch.start b) (ap ch.header head_there ∙ laws.header_kept (ch.start b) (mask_of ks ch w (ch.start b) bs)) w c (length xs)
 
-    pub burst_on : (g : Begun H U) (zs : List ℕ) → length zs ≡ length ys → Went ks ch at u c ys (Ok g) zs → Reached ks ch (HalfRead ks ch at) w k b (bs ++ c ∷ []) xs g zs
+    pub burst_on : (g : Begun H U) (zs : List ℕ) → length zs ≡ length ys → Went ks ch at u c ys (Ok g) zs → Reached (rules_of ks ch ms) (HalfRead ks ch ms at) w k b (bs ++ c ∷ []) xs g zs
     burst_on g zs long went =
         let parts = carried_on (λ e. (e, u)) (judged ks ch (Some (at u).head) (at u).width c (length ys)) g ys zs (λ p. Taken ks ch at (at u).width (at u).head (at u).come c ys g zs) went in
         let j : judged ks ch (Some (ch.start b)) w c (length xs) ≡ Ok parts.0 = sym burst_judged ∙ parts.1 in
         let same : parts.0 ≡ k = same_kind ks ch w b c (length xs) k parts.0 (fit ks ch None w b (length xs) k h.read.begun).of j in
-        read_on ks ch laws w k b h.carries bs c (at u).head head_there h.mask at xs ys zs g (long ∙ h.long) h.read (j ∙ ap Ok same)
+        read_on ks ch laws ms w k b h.carries bs c (at u).head head_there h.mask at xs ys zs g (long ∙ h.long) h.read (j ∙ ap Ok same)
         (subst (λ (T : Type 0). T) (λ i. Taken ks ch at (h.come i).width (at u).head (h.come i).come c ys g zs) parts.2)
 
     pub burst_stops : (e : Refusal) (v : U) (zs : List ℕ) → Went ks ch at u c ys (Err (e, v)) zs → (judged ks ch (Some (ch.start b)) w c (length xs) ≡ Err e) × (zs ≡ ys)
@@ -203,7 +204,7 @@ module _ {K H B : Type 0} (ks : Kinds K) (ch : Beats K H B) (laws : Laws ch) {U 
         (sym burst_judged ∙ parts.1 ∙ ap Err (sym (ap (λ x. x.0) parts.2)), parts.3)
 
   -- the first beat
-  pub begun_on : (n : ℕ) (w : Width) (b : B) (xs : List ℕ) (g : Begun H U) (ys : List ℕ) → length ys ≡ length xs → width_of n ≡ Ok w → Began ks ch at n b xs (Ok g) ys → (k : K) × (judged ks ch None w b (length xs) ≡ Ok k) × Reached ks ch (HalfRead ks ch at) w k b (b ∷ []) xs g ys
+  pub begun_on : (n : ℕ) (w : Width) (b : B) (xs : List ℕ) (g : Begun H U) (ys : List ℕ) → length ys ≡ length xs → width_of n ≡ Ok w → Began ks ch at n b xs (Ok g) ys → (k : K) × (judged ks ch None w b (length xs) ≡ Ok k) × Reached (rules_of ks ch ms) (HalfRead ks ch ms at) w k b (b ∷ []) xs g ys
   begun_on n w b xs g ys long wide began =
       let r : Result (Begun H U) Refusal = Ok g in
       let inner = subst (λ v. UnlessRefused (λ e. e) v r xs ys (λ x. UnlessRefused (λ e. e) (judged ks ch None x b (length xs)) r xs ys (λ k. First ks ch at k x b xs g ys))) wide began in
@@ -219,20 +220,20 @@ module _ {K H B : Type 0} (ks : Kinds K) (ch : Beats K H B) (laws : Laws ch) {U 
       (parts.1 ∙ ap Err (sym parts.2), parts.3)
 
   -- the reader's two calls, as joining asks for them
-  pub begins : (n : ℕ) (b : B) (xs : List ℕ) (r : Result (Begun H U) Refusal) (ys : List ℕ) → length ys ≡ length xs → Began ks ch at n b xs r ys → Begins ks ch (HalfRead ks ch at) n b xs r ys
+  pub begins : (n : ℕ) (b : B) (xs : List ℕ) (r : Result (Begun H U) Refusal) (ys : List ℕ) → length ys ≡ length xs → Began ks ch at n b xs r ys → Begins (rules_of ks ch ms) (HalfRead ks ch ms at) n b xs r ys
   begins n b xs (Ok g) ys long began w wide =
       let r : Result (Begun H U) Refusal = Ok g in
       let parts = begun_on n w b xs g ys long wide began in
-      not_refused (λ e. e) (judged ks ch None w b (length xs)) parts.0 r xs ys (λ k. Reached ks ch (HalfRead ks ch at) w k b (b ∷ []) xs g ys) parts.1 parts.2
+      not_refused (λ e. e) (judged ks ch None w b (length xs)) parts.0 r xs ys (λ k. Reached (rules_of ks ch ms) (HalfRead ks ch ms at) w k b (b ∷ []) xs g ys) parts.1 parts.2
   begins n b xs (Err e) ys long began w wide =
       let r : Result (Begun H U) Refusal = Err e in
       let parts = begun_stops n w b xs e ys wide began in
       subst (λ v. UnlessRefused (λ x. x) v r xs ys (λ k. ⊥)) (sym parts.0) (refl, parts.1)
 
-  pub continues : (u : U) (c : B) (ys : List ℕ) (r : Result (Begun H U) (Refusal × U)) (zs : List ℕ) → length zs ≡ length ys → Went ks ch at u c ys r zs → Continues ks ch (HalfRead ks ch at) u c ys r zs
+  pub continues : (u : U) (c : B) (ys : List ℕ) (r : Result (Begun H U) (Refusal × U)) (zs : List ℕ) → length zs ≡ length ys → Went ks ch at u c ys r zs → Continues (rules_of ks ch ms) (HalfRead ks ch ms at) u c ys r zs
   continues u c ys (Ok g) zs long went w k b bs xs h = burst_on w k b bs xs u ys h c g zs long went
   continues u c ys (Err e) zs long went w k b bs xs h = burst_stops w k b bs xs u ys h c e.0 e.1 zs went
 
   -- a burst that is given up tells the head that its beats have together
-  pub given_up : (u : U) (h : H) → h ≡ (at u).head → (w : Width) (k : K) (b : B) (bs : List B) (xs ys : List ℕ) → HalfRead ks ch at w k b bs xs u ys → h ≡ head_of ks ch w k (ch.start b) bs
+  pub given_up : (u : U) (h : H) → h ≡ (at u).head → (w : Width) (k : K) (b : B) (bs : List B) (xs ys : List ℕ) → HalfRead ks ch ms at w k b bs xs u ys → h ≡ head_of ks ch w k (ch.start b) bs
   given_up u h is w k b bs xs ys half = is ∙ ap (λ p. p.head) half.come
