@@ -22,11 +22,16 @@ use Rattle.beat.proofs.Masks.{part_again}
 use Rattle.beat.proofs.Requests.{legal_right}
 use Rattle.wire.specs.Beats.{joined_mask, HoldMask}
 use Rattle.wire.specs.Bits.{held_mask, mask_below, mask_full, whole_bits, held_whole}
-use Rattle.wire.specs.Messages.{Messages, All, Owes}
+use Rattle.wire.specs.Rules.{Rules}
+use Rattle.wire.specs.Messages.{Message, Messages, All, Owes, rules_of}
 
 -- requests as messages: which are legal; beside header, mask and lanes their beats have nothing
 abbrev pub request_messages : Messages Operation RequestHead RequestBeat
 request_messages = record { Legal = λ o m. Legal o (request m.head m.bytes); Fits = λ o h b. Unit {0} }
+
+-- what joining has to know of requests
+abbrev pub request_rules : Rules RequestBeat RequestHead Operation (Message RequestHead)
+request_rules = rules_of operation_kinds request_beats request_messages
 
 -- only requests with data are partial
 whole_without_data : (o : Operation) → has_data o ≡ false → partial o ≡ false

@@ -18,7 +18,8 @@ use Rattle.beat.proofs.Reading.{agreed}
 use Rattle.beat.proofs.Reading.{agree_self}
 use Rattle.wire.specs.Beats.{HoldMask}
 use Rattle.wire.specs.Request.{passed}
-use Rattle.wire.specs.Messages.{Messages, Owes}
+use Rattle.wire.specs.Rules.{Rules}
+use Rattle.wire.specs.Messages.{Message, Messages, Owes, rules_of}
 
 -- a beat of the channel
 abbrev pub Beat : Type 0
@@ -31,6 +32,10 @@ response_messages =
       Legal = λ k m. LegalResponse k (response m.head m.bytes);
       Fits = λ k h b. b.0.corrupt ≡ (h.denied && response_has_data k);
     }
+
+-- what joining has to know of responses
+abbrev pub response_rules : Rules Beat ResponseHead ResponseOpcode (Message ResponseHead)
+response_rules = rules_of response_kinds response_beats response_messages
 
 -- corrupt is right by the beat's own denied exactly where it is by that of the head
 fitting : (k : ResponseOpcode) (h : ResponseHead) (b : Beat) → corrupt_fits k b.0 ≡ true → response_header (head_of b.0 b.1) ≡ response_header h → b.0.corrupt ≡ (h.denied && response_has_data k)
