@@ -29,7 +29,7 @@ pub enum Refusal {
     Corrupt = 20,
 }
 
-// What the refusal says to people. By hand: a text that is derived takes no width, and reports are aligned by widths.
+// What the refusal says to people. By hand: a derived text takes no width, and who prints a table wants one.
 impl fmt::Display for Refusal {
     fn fmt<W: fmt::Write>(&self, f: &mut fmt::Formatter<W>) -> fmt::Result {
         f.pad(match self {

@@ -16,7 +16,8 @@ use beat::request::RequestBeat;
 use message::refusal::Refusal;
 use message::request::RequestHead;
 
-// Channel A: requests.
+// Channel A: requests. Each channel has an impl of its own, and not one for all: so an edit can spoil one channel's
+// calls, and the check shows that its contracts tell.
 pub use beat::request::ChannelA;
 
 impl Channel for ChannelA {
